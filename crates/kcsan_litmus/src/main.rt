@@ -7,7 +7,8 @@ mod system;
 mod whole_file;
 mod words;
 
-use litmus_command::command::{OUT_OF_MEMORY, UNREADABLE, USAGE, command};
+use file_commands::failure::{OUT_OF_MEMORY, UNREADABLE, USAGE};
+use litmus_command::command::command;
 use std::process::ExitCode;
 use system::System;
 use words::{WordsFault, words};

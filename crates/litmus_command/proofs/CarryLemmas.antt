@@ -10,14 +10,15 @@ use Rattle.litmus_command.proofs.EndLemmas.{check_reads, ends_otherwise, ends_un
 use Rattle.litmus_command.proofs.OverwriteLemmas.{kept_ends, kept_files, kept_otherwise, kept_reads, no_check, no_races, no_searches, same_path}
 use Rattle.litmus_command.proofs.ResultLemmas.{failures_are_known, known_above, known_below, known_so, tells_so}
 use Rattle.litmus_command.proofs.FilesEndLemmas.{files_read, races_end_unless_several}
-use Rattle.litmus_command.specs.Check.{CheckEnds}
-use Rattle.litmus_command.specs.Desks.{DeskState, once_told}
-use Rattle.litmus_command.specs.Command.{IsDone, IsStopped, OutputState, state_in, status_of}
+use Rattle.file_commands.specs.Check.{CheckEnds}
+use Rattle.file_commands.specs.Desks.{DeskState, once_told}
+use Rattle.file_commands.specs.Statuses.{status_of}
+use Rattle.litmus_command.specs.Command.{IsDone, IsStopped, OutputState, state_in}
 use Rattle.litmus_command.specs.Ends.{Fails, IsCarriedOut, IsDoneWith, IsNoCheck, Succeeds}
 use Rattle.litmus_command.specs.Overwrite.{IsKept, Overwrites}
-use Rattle.litmus_command.specs.Races.{RacesEnds, SearchesEnd, asked_of_races, asked_of_search}
-use Rattle.litmus_command.specs.declared.command.Failure.{Failure}
-use Rattle.litmus_command.specs.declared.complaint.Complaint.TheVariants as complaint
+use Rattle.file_commands.specs.Races.{RacesEnds, SearchesEnd, asked_of_races, asked_of_search}
+use Rattle.file_commands.specs.declared.failure.Failure.{Failure}
+use Rattle.file_commands.specs.declared.complaint.Complaint.TheVariants as complaint
 
 -- what is done ends with one of three statuses
 module _ (request : Request) (status : ℕ) (before after : OutputState) where

@@ -6,15 +6,17 @@ use Rattle.std.specs.Prelude.{IsErrAnd, IsErrOf}
 use Rattle.cli.specs.declared.request.Request.{Request}
 use Rattle.cli.specs.declared.request.Request.TheVariants.{Search}
 use Rattle.cli.specs.declared.request.SearchRequest.{SearchRequest}
-use Rattle.litmus_command.specs.Desks.{DeskState}
+use Rattle.file_commands.specs.Desks.{DeskState}
+use Rattle.file_commands.specs.Failures.{read_failure}
+use Rattle.file_commands.specs.Statuses.{status_of}
 use Rattle.litmus_command.specs.Command.{DoesNotRead, DoesRead, IsCut, IsDone, IsGiven, IsGivenInPart, IsMisused, IsOfFile, IsRefusedOf, NothingIsWritten, Reads}
-use Rattle.litmus_command.specs.Command.{SearchIsDone, OutputState, end_status_of, once_read, read_failure, state_in, status_of}
+use Rattle.litmus_command.specs.Command.{SearchIsDone, OutputState, end_status_of, once_read, state_in}
 use Rattle.litmus_command.specs.Ends.{CommandEnds, Fails, IsDoneWith}
-use Rattle.litmus_command.specs.Files.{FileEvent, Gave, noted}
-use Rattle.litmus_command.specs.declared.command.Failure.{Failure}
-use Rattle.litmus_command.specs.declared.complaint.Complaint.{Complaint}
-use Rattle.litmus_command.specs.declared.desk.ReadFault.{ReadFault}
-use Rattle.litmus_command.specs.declared.desk.ReadFault.TheVariants as fault
+use Rattle.file_commands.specs.Files.{FileEvent, Gave, noted}
+use Rattle.file_commands.specs.declared.failure.Failure.{Failure}
+use Rattle.file_commands.specs.declared.complaint.Complaint.{Complaint}
+use Rattle.file_commands.specs.declared.desk.ReadFault.{ReadFault}
+use Rattle.file_commands.specs.declared.desk.ReadFault.TheVariants as fault
 use Rattle.report_text.specs.Sink.{CountsFailure}
 
 -- a command that fails so ends so

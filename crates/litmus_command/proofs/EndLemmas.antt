@@ -8,16 +8,17 @@ use Rattle.diagnostics.specs.check_output.Diagnosis.{Diagnosis, Gave, IsFound, L
 use Rattle.diagnostics.specs.declared.check_output.file.Files.{Files}
 use Rattle.cli.specs.Bounds.{KeepsCheckBounds}
 use Rattle.cli.specs.declared.request.CheckRequest.{CheckRequest}
-use Rattle.litmus_command.specs.Check.{AreGoneOver, AreListsAtFault, CheckAsksFor, CheckEnds, Checked, Early, IsGoneOver, IsLeftOver, IsListFault, IsToldOfLost}
-use Rattle.litmus_command.specs.Check.{IsPrinted, IsSeveral, Left, Unread, asked_of}
-use Rattle.litmus_command.specs.Desks.{DeskState, once_told}
-use Rattle.litmus_command.specs.Command.{EndsAs, IsOfNoOverwrite, Reads, StatusComplaint, complaint_status_of, state_in, status_of, text_status_of}
-use Rattle.litmus_command.specs.Files.{FileEvent, OnlyRead}
-use Rattle.litmus_command.specs.StandardError.{heard}
-use Rattle.litmus_command.specs.declared.command.Failure.{Failure}
-use Rattle.litmus_command.specs.declared.command.Failure.TheVariants as failure
-use Rattle.litmus_command.specs.declared.complaint.Complaint.{Complaint}
-use Rattle.litmus_command.specs.declared.complaint.Complaint.TheVariants as complaint
+use Rattle.file_commands.specs.Check.{AreGoneOver, AreListsAtFault, CheckAsksFor, CheckEnds, Checked, Early, IsGoneOver, IsLeftOver, IsListFault, IsToldOfLost}
+use Rattle.file_commands.specs.Check.{IsPrinted, IsSeveral, Left, Unread, asked_of}
+use Rattle.file_commands.specs.Desks.{DeskState, once_told}
+use Rattle.file_commands.specs.Statuses.{complaint_status_of, status_of, text_status_of}
+use Rattle.litmus_command.specs.Command.{EndsAs, IsOfNoOverwrite, Reads, StatusComplaint, state_in}
+use Rattle.file_commands.specs.Files.{FileEvent, OnlyRead}
+use Rattle.file_commands.specs.StandardError.{heard}
+use Rattle.file_commands.specs.declared.failure.Failure.{Failure}
+use Rattle.file_commands.specs.declared.failure.Failure.TheVariants as failure
+use Rattle.file_commands.specs.declared.complaint.Complaint.{Complaint}
+use Rattle.file_commands.specs.declared.complaint.Complaint.TheVariants as complaint
 use Rattle.litmus_syntax.specs.declared.error.ParseError.{ParseError}
 use Rattle.litmus_syntax.specs.declared.error.ParseError.TheVariants as parse
 use Rattle.report_text.specs.Sink.{CountsFailure, appended}

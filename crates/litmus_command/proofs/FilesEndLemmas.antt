@@ -1,6 +1,6 @@
 -- How the races of one file end, and how those of several.
-use Rattle.std.proofs.Common.{◌≡◌, ◌∙◌, ◌<◌, ◌≤◌, ◌≢◌, ◌⊎◌, ◌∷◌, ◌&&◌, ◌||◌, [], ℕ, All, Bool, List, Option, ap, append-nil, arith, false, inl, inr, length}
-use Rattle.std.proofs.Common.{if◌then◌else◌, max, nat_lt, refl, subst, sym, true}
+use Rattle.std.proofs.Common.{◌≡◌, ◌∙◌, ◌<◌, ◌≢◌, ◌⊎◌, ◌∷◌, ◌&&◌, ◌||◌, [], ℕ, All, Bool, List, Option, ap, arith, false, inl, inr, length}
+use Rattle.std.proofs.Common.{max, nat_lt, refl, subst, sym, true}
 use Rattle.std.proofs.lemmas.Bool.{cases_lt}
 use Rattle.cli.specs.Bounds.{KeepsRacesBounds}
 use Rattle.cli.specs.declared.request.RacesRequest.{RacesRequest}
@@ -8,22 +8,21 @@ use Rattle.diagnostics.specs.check_output.Diagnosis.{Diagnosis, Gave, Lost, has_
 use Rattle.diagnostics.specs.declared.check_output.file.Files.{Files}
 use Rattle.diagnostics.specs.declared.text_check.checked.Check.TheVariants as checks
 use Rattle.litmus_command.proofs.EndLemmas.{Ends, IsTold, ends_cut, ends_told, faults_alone, no_last_line, one_found, reads_none, told_one}
-use Rattle.litmus_command.specs.Check.{IsLeftOver, IsPrinted}
-use Rattle.litmus_command.specs.Command.{EndsAs, StatusComplaint, state_in}
-use Rattle.litmus_command.specs.Desks.{DeskState, once_told}
-use Rattle.litmus_command.specs.Files.{FileEvent, OnlyRead}
-use Rattle.litmus_command.specs.FileWork as work
-use Rattle.litmus_command.specs.FileWork.{AllSearched, AreLookedInto, Asked, Early, FileFound, FilesEnd, IsFileFound, IsLookedInto, LeftOut, Misplaced, PassedOver, Refused, Searched}
-use Rattle.litmus_command.specs.FileWork.{files_of, files_output_of, has_names, is_more, status_of_all, verdict_status_of}
-use Rattle.litmus_command.specs.Races.{AreSeveral, RacesEnds, asked_of_races, races_work}
-use Rattle.litmus_command.specs.declared.work.RacesWork.{RacesWork}
-use Rattle.litmus_command.specs.declared.work.Work.TheVariants as works
-use Rattle.litmus_command.specs.Settings.{AskSettings}
-use Rattle.litmus_command.specs.StandardError.{heard}
-use Rattle.litmus_command.specs.Statuses.{engine_status_of, run_status_of, text_status_of}
-use Rattle.litmus_command.specs.declared.complaint.Complaint.{Complaint}
-use Rattle.litmus_command.specs.declared.complaint.Complaint.TheVariants as complaint
-use Rattle.litmus_command.specs.declared.command.Failure.TheVariants as failure
+use Rattle.file_commands.specs.Check.{IsLeftOver, IsPrinted}
+use Rattle.file_commands.specs.Desks.{DeskState, once_told}
+use Rattle.file_commands.specs.Files.{FileEvent, OnlyRead}
+use Rattle.file_commands.specs.FileWork as work
+use Rattle.file_commands.specs.FileWork.{AllSearched, AreLookedInto, Asked, Early, FileFound, FilesEnd, IsFileFound, IsLookedInto, LeftOut, Misplaced, PassedOver, Refused, Searched}
+use Rattle.file_commands.specs.FileWork.{files_of, files_output_of, has_names, is_more, status_of_all, verdict_status_of}
+use Rattle.file_commands.specs.Races.{AreSeveral, RacesEnds, asked_of_races, races_work}
+use Rattle.file_commands.specs.declared.work.RacesWork.{RacesWork}
+use Rattle.file_commands.specs.declared.work.Work.TheVariants as works
+use Rattle.file_commands.specs.Settings.{AskSettings}
+use Rattle.file_commands.specs.StandardError.{heard}
+use Rattle.file_commands.specs.Statuses.{engine_status_of, run_status_of, text_status_of}
+use Rattle.file_commands.specs.declared.complaint.Complaint.{Complaint}
+use Rattle.file_commands.specs.declared.complaint.Complaint.TheVariants as complaint
+use Rattle.file_commands.specs.declared.failure.Failure.TheVariants as failure
 use Rattle.litmus_parse.specs.Text.{file_bytes}
 use Rattle.litmus_syntax.specs.declared.error.ParseError.{ParseError}
 use Rattle.litmus_syntax.specs.declared.error.ParseError.TheVariants as parse

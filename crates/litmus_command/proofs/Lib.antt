@@ -1,10 +1,7 @@
 mod AskedLemmas
 mod ResultLemmas
-mod CheckLemmas
 mod EndLemmas
-mod FilesLemmas
 mod FilesEndLemmas
 mod OverwriteLemmas
 mod CommandLemmas
 mod CarryLemmas
-mod ListLemmas

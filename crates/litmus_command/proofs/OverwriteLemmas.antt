@@ -2,7 +2,7 @@
 use Rattle.std.proofs.Common.{◌≡◌, ◌≤◌, ◌∙◌, ◌⊎◌, ℕ, List, ap, arith, inl, inr, sym}
 use Rattle.cli.specs.declared.request.Request.{Request}
 use Rattle.cli.specs.declared.request.Request.TheVariants as requests
-use Rattle.litmus_command.specs.Desks.{DeskState}
+use Rattle.file_commands.specs.Desks.{DeskState}
 use Rattle.litmus_command.specs.Command.{AreFilesSearched, AreRaced, EndsAs, IsChecked, Reads, OutputState, state_in}
 use Rattle.litmus_command.specs.Overwrite.{IsKept, Overwrites}
 

@@ -3,9 +3,10 @@ use Rattle.std.proofs.Common.{◌<◌, Bool, ap, ◌≤◌, ◌⊎◌, arith, in
 use Rattle.std.proofs.Common.{refl, subst, sym, Vec}
 use Rattle.std.specs.Global.{Global}
 use Rattle.std.specs.Prelude.{IsErrAnd}
-use Rattle.litmus_command.specs.Command.{SpellsNone, engine_status_of, run_status_of, status_of, text_status_of, trace_status_of}
-use Rattle.litmus_command.specs.declared.command.Failure.{Failure}
-use Rattle.litmus_command.specs.declared.command.Failure.TheVariants as failure
+use Rattle.file_commands.specs.Statuses.{engine_status_of, run_status_of, status_of, text_status_of, trace_status_of, picture_status_of}
+use Rattle.litmus_command.specs.Command.{SpellsNone}
+use Rattle.file_commands.specs.declared.failure.Failure.{Failure}
+use Rattle.file_commands.specs.declared.failure.Failure.TheVariants as failure
 use Rattle.run_output.specs.declared.error.EngineError.{EngineError}
 use Rattle.run_output.specs.declared.error.EngineError.TheVariants as engine
 use Rattle.std.specs.Option.{option_map}
@@ -17,14 +18,13 @@ use Rattle.trace_replay.specs.declared.accepted.TraceError.{TraceError}
 use Rattle.trace_replay.specs.declared.accepted.TraceError.TheVariants as trace
 use Rattle.timeline.specs.declared.picture.error.PictureError.{PictureError}
 use Rattle.timeline.specs.declared.picture.error.PictureError.TheVariants as picture
-use Rattle.litmus_command.specs.Command.{picture_status_of}
 use Rattle.litmus_command.specs.Engine.{IsRefused, Stops, StopsReady, StopsRun}
 use Rattle.run_stats.specs.Errors as tally
 use Rattle.search_output.specs.Texts as search
 use Rattle.litmus_command.specs.Command.{StatusComplaint}
-use Rattle.litmus_command.specs.StandardError.{heard}
-use Rattle.litmus_command.specs.declared.complaint.Complaint.{Complaint}
-use Rattle.litmus_command.specs.declared.complaint.Complaint.TheVariants as complaint
+use Rattle.file_commands.specs.StandardError.{heard}
+use Rattle.file_commands.specs.declared.complaint.Complaint.{Complaint}
+use Rattle.file_commands.specs.declared.complaint.Complaint.TheVariants as complaint
 use Rattle.run_stats.specs.Errors.{IsNotRead}
 use Rattle.litmus_parse.specs.Read.{IsReadAs}
 use Rattle.litmus_syntax.specs.declared.program.Program.{Program}

@@ -41,35 +41,27 @@ use Rattle.search_run.specs.declared.wanted.Wanted.{Wanted}
 use Rattle.trace_replay.specs.Answer as answers
 use Rattle.trace_replay.specs.declared.accepted.TraceError.{TraceError}
 use Rattle.diagnostics.specs.text_check.Calls.{calls_text}
-use Rattle.litmus_command.specs.Check.{CheckAsksFor, CheckEnds, IsOutOfMemory, IsSeveral}
-use Rattle.litmus_command.specs.Desks.{DeskState}
+use Rattle.file_commands.specs.Check.{CheckAsksFor, CheckEnds, IsOutOfMemory, IsSeveral}
+use Rattle.file_commands.specs.Desks.{DeskState}
 use Rattle.litmus_command.specs.Engine.{IsRefused, TextLeaves}
-use Rattle.litmus_command.specs.Files.{FileEvent, Gave, Has, OnlyRead, noted}
+use Rattle.file_commands.specs.Files.{FileEvent, Gave, Has, OnlyRead, noted}
 use Rattle.litmus_command.specs.Replay.{IsLineOf}
-pub use Rattle.litmus_command.specs.Lists.{SpellsNoPlaces, SpellsNoSchedule}
+use Rattle.file_commands.specs.Lists.{SpellsNoPlaces, SpellsNoSchedule}
 use Rattle.litmus_command.specs.Overwrite.{Overwrites}
-pub use Rattle.litmus_command.specs.Settings.{AskSettings, settings_of}
-use Rattle.litmus_command.specs.Races.{AreSeveral, RacesEnds, SearchesEnd}
+use Rattle.file_commands.specs.Settings.{AskSettings}
+use Rattle.file_commands.specs.Races.{AreSeveral, RacesEnds, SearchesEnd}
 use Rattle.litmus_command.specs.Show.{IsDrawn}
-pub use Rattle.litmus_command.specs.Statuses.{complaint_status_of, engine_status_of, picture_status_of, run_status_of, status_of}
-pub use Rattle.litmus_command.specs.Statuses.{text_status_of, trace_status_of}
+use Rattle.file_commands.specs.Statuses.{complaint_status_of, engine_status_of, picture_status_of}
+use Rattle.file_commands.specs.Statuses.{trace_status_of}
 use Rattle.picture_text.specs.declared.cells.Style.{Style}
 use Rattle.picture_text.specs.declared.cells.Style.TheVariants.{Ascii}
 use Rattle.timeline.specs.picture.Drawn.{IsUndrawn}
 use Rattle.timeline.specs.declared.picture.error.PictureError.{PictureError}
-use Rattle.litmus_command.specs.StandardError.{heard}
-use Rattle.litmus_command.specs.declared.command.Failure.{Failure}
-use Rattle.litmus_command.specs.declared.command.Failure.TheVariants as failure
-use Rattle.litmus_command.specs.declared.complaint.Complaint.{Complaint}
-use Rattle.litmus_command.specs.declared.complaint.Complaint.TheVariants as complaint
-use Rattle.litmus_command.specs.declared.desk.ReadFault.{ReadFault}
-use Rattle.litmus_command.specs.declared.desk.ReadFault.TheVariants as fault
+use Rattle.file_commands.specs.StandardError.{heard}
+use Rattle.file_commands.specs.declared.failure.Failure.{Failure}
+use Rattle.file_commands.specs.declared.complaint.Complaint.{Complaint}
+use Rattle.file_commands.specs.declared.complaint.Complaint.TheVariants as complaint
 use Rattle.run_output.specs.declared.error.EngineError.{EngineError}
-
--- what a file that gives no bytes means
-abbrev pub read_failure : ReadFault → Failure
-read_failure fault.OutOfMemory = failure.OutOfMemory
-read_failure fault.CannotRead = failure.CannotRead
 
 -- what standard output has taken, how often the desk has failed, and what was done with files
 pub record OutputState : Type 0 where

@@ -1,11 +1,12 @@
 -- How a command ends, and what its status says.
 use Rattle.std.specs.Prelude.{◌≡◌, ◌≢◌, ◌⊎◌, ℕ, List, Err, Ok, Result, false, true}
 use Rattle.cli.specs.declared.request.Request.{Request}
-use Rattle.litmus_command.specs.Desks.{DeskState}
+use Rattle.file_commands.specs.Desks.{DeskState}
+use Rattle.file_commands.specs.Statuses.{status_of}
 use Rattle.litmus_command.specs.Command.{AreFilesSearched, AreRaced, DoesRead, EndsAs, IsChecked, IsCut, IsDone, IsMisused, IsOfFile, IsOfSeveral, IsRefusedOf, IsStopped}
-use Rattle.litmus_command.specs.Command.{IsToldApart, NothingIsWritten, Reads, OutputState, StatusComplaint, state_in, status_of}
+use Rattle.litmus_command.specs.Command.{IsToldApart, NothingIsWritten, Reads, OutputState, StatusComplaint, state_in}
 use Rattle.litmus_command.specs.Overwrite.{IsKept, Overwrites}
-use Rattle.litmus_command.specs.declared.command.Failure.{Failure}
+use Rattle.file_commands.specs.declared.failure.Failure.{Failure}
 use Rattle.report_text.specs.Sink.{CountsFailure}
 
 -- what is asked was done, with this status: with a report, without one, or as a search that was stopped

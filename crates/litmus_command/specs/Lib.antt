@@ -1,16 +1,6 @@
 pub mod Engine
-pub mod Files
-pub mod StandardError
-pub mod Desks
-pub mod Lists
-pub mod Settings
 pub mod Replay
 pub mod Show
-pub mod Statuses
-pub mod Check
-pub mod FileWork
-pub mod FilesAsked
-pub mod Races
 pub mod Overwrite
 pub mod Command
 pub mod Ends

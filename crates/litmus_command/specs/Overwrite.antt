@@ -5,9 +5,9 @@ use Rattle.std.specs.Option.{option_map}
 use Rattle.diagnostics.specs.declared.check_output.told.Lines.{Lines}
 use Rattle.cli.specs.declared.request.Request.{Request}
 use Rattle.cli.specs.declared.request.Request.TheVariants as requests
-use Rattle.litmus_command.specs.Check.{IsOutOfMemory}
-use Rattle.litmus_command.specs.Desks.{DeskState, once_told}
-use Rattle.litmus_command.specs.declared.complaint.Complaint.TheVariants as complaint
+use Rattle.file_commands.specs.Check.{IsOutOfMemory}
+use Rattle.file_commands.specs.Desks.{DeskState, once_told}
+use Rattle.file_commands.specs.declared.complaint.Complaint.TheVariants as complaint
 use Rattle.program_table.specs.text_pieces.Shown.{shown}
 
 -- both are this path: that of the file that is read, and that of one that is to be written

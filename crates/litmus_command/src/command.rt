@@ -5,215 +5,50 @@ ghost use Rattle.cli.specs.Bounds.{KeepsBounds, KeepsRunBounds, KeepsSearchBound
 ghost use Rattle.cli.specs.Words.{AskForHelp, AskForVersion, MayFail};
 ghost use Rattle.cli.specs.declared.request.Request as spec;
 ghost use Rattle.clap.specs.Words.{kind_of};
-ghost use Rattle.litmus_command.specs.Check.{IsOutOfMemory};
-ghost use Rattle.litmus_command.specs.Desks.{DeskState, once_told};
-ghost use Rattle.litmus_command.specs.Command.{AskForOne, AskSettings, AsksFor, EndsAs, HelpIsCut, HelpIsGiven, IsCut, IsDone, IsGiven, IsGivenInPart};
+ghost use Rattle.file_commands.specs.Check.{IsOutOfMemory};
+ghost use Rattle.file_commands.specs.Desks.{DeskState, once_told};
+ghost use Rattle.file_commands.specs.Statuses.{status_of};
+ghost use Rattle.litmus_command.specs.Command.{AskForOne, AsksFor, EndsAs, HelpIsCut, HelpIsGiven, IsCut, IsDone, IsGiven, IsGivenInPart};
 ghost use Rattle.litmus_command.specs.Command.{AreFilesSearched, AreRaced, IsChecked, IsOfFile, IsOfSeveral, IsRefusedOf, IsStopped, IsToldApart, OfAsked};
-ghost use Rattle.litmus_command.specs.Command.{DoesNotRead, DoesRead, IsFault, IsMisused, Reads, SpellsNoPlaces, StatusComplaint, UsageIsTold, VersionIsCut, VersionIsGiven};
-ghost use Rattle.litmus_command.specs.Command.{end_status_of, engine_status_of, picture_status_of, read_failure, run_status_of, settings_of, state_in};
-ghost use Rattle.litmus_command.specs.Command.{status_of, text_status_of, times_of, trace_status_of, with_trace};
+ghost use Rattle.litmus_command.specs.Command.{DoesNotRead, DoesRead, IsFault, IsMisused, Reads, StatusComplaint, UsageIsTold, VersionIsCut, VersionIsGiven};
+ghost use Rattle.litmus_command.specs.Command.{end_status_of, state_in};
+ghost use Rattle.litmus_command.specs.Command.{times_of, with_trace};
 ghost use Rattle.litmus_command.specs.Ends.{CommandEnds, IsCarriedOut, IsNoCheck};
 ghost use Rattle.litmus_command.specs.Overwrite.{IsKept, Overwrites};
-ghost use Rattle.litmus_command.specs.StandardError.{heard};
-ghost use Rattle.litmus_command.specs.declared.command.Failure.TheVariants.{BadPlace, Engine, OutOfMemory, Picture, Trace};
+ghost use Rattle.file_commands.specs.StandardError.{heard};
+ghost use Rattle.file_commands.specs.declared.failure.Failure.TheVariants.{OutOfMemory};
 ghost use Rattle.picture_text.specs.declared.cells.Style.TheVariants.{Ascii};
 ghost use Rattle.report_text.specs.Sink.{CountsFailure};
 ghost use Rattle.std.specs.Option.{option_map};
 ghost use Rattle.prepared_program.specs.step_schedule.Schedule.{entries_of};
 
-use crate::check::{carry_check, list_calls};
-use crate::complaint::Complaint;
-use crate::desk::{Desk, ReadFault};
 use crate::engine::run_text;
-use crate::files::{carry_races, carry_searches};
 use crate::overwrite::{overwritten, refuse_overwrite};
 use crate::replay::replayed;
 use crate::search::search_for;
 use crate::show::drawn;
 use clap::error::ErrorKind;
 use cli::{
-    ReplayRequest, Request, RunOptions, RunRequest, SearchRequest, ShowRequest, StepRequest, asked,
-    version_line,
+    ReplayRequest, Request, RunRequest, SearchRequest, ShowRequest, StepRequest, asked, version_line,
 };
-use litmus_parse::{FILE_BYTES, ParseError};
-use litmus_step::{RunError, Settings};
+use diagnostics::text_check::calls;
+use file_commands::check::carry_check;
+use file_commands::complaint::Complaint;
+use file_commands::desk::Desk;
+use file_commands::failure::{Failure, NO_REPORT, REPORTED, STOPPED, USAGE, advise_check};
+use file_commands::files::{carry_races, carry_searches};
+use file_commands::settings::settings_for;
+use litmus_parse::FILE_BYTES;
+use litmus_step::Settings;
 use picture_text::Style;
-use prepared_program::place_list::parse_places;
-use prepared_program::program_layout::Place;
 use prepared_program::step_schedule::Schedule;
-use run_output::{EngineError, Written};
+use run_output::Written;
 use run_stats::{Times, run_text_often};
-use std::alloc::{AllocError, Global};
+use std::alloc::Global;
 use std::convert::AsStr;
 use std::sync::Wait;
 use std::thread::Threads;
-use thiserror::Error;
-use timeline::picture::PictureError;
-use trace_replay::{SIZE_LIMIT, TraceError};
-
-/// The program ran, and there was no report; or it has no race, or nothing was to be run.
-pub(crate) const NO_REPORT: u8 = 0;
-
-/// The program ran, and there was a report; or it has a race.
-pub(crate) const REPORTED: u8 = 2;
-
-/// The words make no sense.
-pub const USAGE: u8 = 64;
-
-/// A file is refused.
-const REFUSED: u8 = 65;
-
-/// A file can't be read.
-pub const UNREADABLE: u8 = 66;
-
-/// A task is stuck.
-const STUCK: u8 = 70;
-
-/// Memory ran out.
-pub const OUT_OF_MEMORY: u8 = 71;
-
-/// Output can't be written.
-const UNWRITABLE: u8 = 74;
-
-/// A search was stopped, and there was no report, or no race, so far.
-pub(crate) const STOPPED: u8 = 75;
-
-/// Why the program does not end well. Its text goes to standard error.
-#[derive(Clone, Copy, Debug, PartialEq, Eq, Error)]
-pub enum Failure {
-    #[error("bad schedule")]
-    BadSchedule,
-    #[error("bad place")]
-    BadPlace,
-    #[error("cannot read")]
-    CannotRead,
-    #[error("cannot write")]
-    CannotWrite,
-    #[error("out of memory")]
-    OutOfMemory,
-    #[error("{0}")]
-    Engine(EngineError),
-    #[error("{0}")]
-    Trace(TraceError),
-    #[error("{0}")]
-    Picture(PictureError),
-}
-
-impl From<AllocError> for Failure {
-    ghost from_gives = { λ _ failure. failure ≡ OutOfMemory };
-
-    fn from(_error: AllocError) -> Failure {
-        Failure::OutOfMemory
-    }
-}
-
-impl From<ReadFault> for Failure {
-    ghost from_gives = { λ fault failure. failure ≡ read_failure fault };
-
-    fn from(fault: ReadFault) -> Failure {
-        match fault {
-            ReadFault::OutOfMemory => Failure::OutOfMemory,
-            ReadFault::CannotRead => Failure::CannotRead,
-        }
-    }
-}
-
-impl From<EngineError> for Failure {
-    ghost from_gives = { λ error failure. failure ≡ Engine error };
-
-    fn from(error: EngineError) -> Failure {
-        Failure::Engine(error)
-    }
-}
-
-impl From<TraceError> for Failure {
-    ghost from_gives = { λ error failure. failure ≡ Trace error };
-
-    fn from(error: TraceError) -> Failure {
-        Failure::Trace(error)
-    }
-}
-
-impl From<PictureError> for Failure {
-    ghost from_gives = { λ error failure. failure ≡ Picture error };
-
-    fn from(error: PictureError) -> Failure {
-        Failure::Picture(error)
-    }
-}
-
-impl Failure {
-    /// The status that the program ends with.
-    pub(crate) fn status(self) -> u8
-        ensures { result ≡ status_of self }
-    {
-        match self {
-            Failure::BadSchedule | Failure::BadPlace => USAGE,
-            Failure::CannotRead => UNREADABLE,
-            Failure::CannotWrite => UNWRITABLE,
-            Failure::OutOfMemory => OUT_OF_MEMORY,
-            Failure::Engine(error) => engine_status(error),
-            Failure::Trace(error) => trace_status(error),
-            Failure::Picture(error) => picture_status(error),
-        }
-    }
-}
-
-/// The status for a litmus text that is refused.
-fn text_status(error: ParseError) -> u8
-    ensures { result ≡ text_status_of error }
-{
-    match error {
-        ParseError::OutOfMemory => OUT_OF_MEMORY,
-        ParseError::Syntax { .. }
-        | ParseError::Unsupported { .. }
-        | ParseError::Limit(_)
-        | ParseError::NotAscii => REFUSED,
-    }
-}
-
-/// The status for a program that can't be run, or whose run doesn't come to its end.
-fn run_status(error: RunError) -> u8
-    ensures { result ≡ run_status_of error }
-{
-    match error {
-        // Slots, places and schedules come from the words, and the file has no fault.
-        RunError::BadSlots | RunError::BadPlace | RunError::BadSchedule => USAGE,
-        RunError::OutOfMemory | RunError::NoThread => OUT_OF_MEMORY,
-        RunError::Stuck { .. } => STUCK,
-    }
-}
-
-/// The status for a file that has no output.
-fn engine_status(error: EngineError) -> u8
-    ensures { result ≡ engine_status_of error }
-{
-    match error {
-        EngineError::Text(error) => text_status(error),
-        EngineError::Run(error) => run_status(error),
-        EngineError::SinkFailed => UNWRITABLE,
-    }
-}
-
-/// The status for a trace that is not accepted.
-fn trace_status(error: TraceError) -> u8
-    ensures { result ≡ trace_status_of error }
-{
-    match error {
-        TraceError::OutOfMemory => OUT_OF_MEMORY,
-        TraceError::BadTrace { .. } | TraceError::FalseReport { .. } => REFUSED,
-    }
-}
-
-/// The status for a trace that is not drawn.
-fn picture_status(error: PictureError) -> u8
-    ensures { result ≡ picture_status_of error }
-{
-    match error {
-        PictureError::Trace(error) => trace_status(error),
-        PictureError::TooLong => REFUSED,
-    }
-}
+use trace_replay::SIZE_LIMIT;
 
 /// The whole program: does what the words ask for, and answers the status that the program ends
 /// with. The first word is the program's name.
@@ -330,15 +165,6 @@ pub fn carry_out<R: Threads + Wait + Sync, D: Desk>(
     }
 }
 
-/// Where a litmus file is refused, the desk may say that `check` says more of it.
-pub(crate) fn advise_check<D: Desk>(failure: Failure, file: Option<&str>, desk: &D) {
-    if let (Some(file), Failure::Engine(EngineError::Text(error))) = (file, failure) {
-        if text_status(error) == REFUSED {
-            desk.advise_check(file);
-        }
-    }
-}
-
 /// Ends what was asked, of the litmus file of this name if it is of one: where it failed, standard error is told why.
 /// The status that the program ends with.
 fn finish<D: Desk>(done: Result<u8, Failure>, file: Option<&str>, desk: &mut D) -> u8
@@ -367,39 +193,6 @@ fn fail<D: Desk>(failure: Failure, desk: &mut D) -> u8
 {
     desk.complain(Complaint::Failure(failure));
     failure.status()
-}
-
-/// What a run goes by, as it is asked for.
-pub(crate) fn settings(options: &RunOptions<'_>, places: Vec<Place>) -> Settings
-    ensures { result ≡ settings_of options.now places }
-{
-    // As the kernel's CONFIG_KCSAN_REPORT_VALUE_CHANGE_ONLY and CONFIG_KCSAN_ASSUME_PLAIN_WRITES_ATOMIC are by default;
-    // `--strict` turns both off.
-    Settings {
-        slots: options.slots,
-        skip: options.skip,
-        randomize: options.randomize,
-        seed: options.seed,
-        value_change_only: !options.strict,
-        plain_writes_atomic: !options.strict,
-        layout: options.layout,
-        turns: options.turns,
-        places,
-    }
-}
-
-/// The settings that are asked for, with the places that the text of the options spells.
-pub(crate) fn settings_for(alloc: Global, options: &RunOptions<'_>) -> Result<Settings, Failure>
-    requires { KeepsBounds options.now }
-    ensures asks { IfOk result (AskSettings options.now) }
-    ensures misused { IfErr result (λ failure. status_of failure ≡ 64 → SpellsNoPlaces options.now.places.now) }
-    ensures early { IfErr result (λ failure. (status_of failure ≡ 64) ⊎ (status_of failure ≡ 71)) }
-    ensures known { IfErr result (λ failure. ((failure ≡ BadPlace) × SpellsNoPlaces options.now.places.now) ⊎ (failure ≡ OutOfMemory)) }
-{
-    match parse_places(alloc, options.places)? {
-        Some(places) => Ok(settings(options, places)),
-        None => Err(Failure::BadPlace),
-    }
 }
 
 /// The settings and the schedule that are asked for, as the request's texts spell them.
@@ -569,6 +362,16 @@ fn style_for<D: Desk>(request: &ShowRequest<'_>, desk: &D) -> Style
         Style::Ascii
     } else {
         Style::Lines
+    }
+}
+
+/// Prints the calls that are read.
+fn list_calls<D: Desk>(desk: &mut D) -> Result<u8, Failure>
+    ensures { CommandEnds Request.Calls result (D.state desk.old) (D.state desk.new) }
+{
+    match desk.print(calls().as_bytes()) {
+        Ok(()) => Ok(NO_REPORT),
+        Err(_) => Err(Failure::CannotWrite),
     }
 }
 

@@ -5,12 +5,12 @@ ghost use Rattle.std.specs.Option.{option_map};
 ghost use Rattle.litmus_command.specs.Overwrite as spec;
 ghost use Rattle.litmus_command.specs.Overwrite.{AreSamePath, IsKept, Overwrites};
 
-use crate::check::tell;
-use crate::command::Failure;
-use crate::complaint::Complaint;
-use crate::desk::Desk;
 use cli::Request;
 use diagnostics::check_output::Lines;
+use file_commands::check::tell;
+use file_commands::complaint::Complaint;
+use file_commands::desk::Desk;
+use file_commands::failure::Failure;
 use program_table::text_pieces::{joined, shown};
 use std::alloc::{AllocError, Global};
 

@@ -5,7 +5,7 @@ use Rattle.cli.specs.declared.request.Request.{Request}
 use Rattle.cli.specs.declared.request.Request.TheVariants.{Calls, Replay, Run, Search, Show, Step}
 use Rattle.litmus_command.proofs.CarryLemmas.{carried_check, carried_kept, carried_races, carried_searches}
 use Rattle.litmus_command.proofs.command.carry_out.Goals as goal
-use Rattle.litmus_command.specs.Desks.{DeskState}
+use Rattle.file_commands.specs.Desks.{DeskState}
 use Rattle.litmus_command.specs.Ends.{IsCarriedOut, IsNoCheck}
 use Rattle.litmus_command.specs.Overwrite.{Overwrites}
 

@@ -2,10 +2,10 @@
 use Rattle.std.proofs.Common.{ℕ, Result, subst, sym}
 use Rattle.litmus_command.proofs.CarryLemmas.{carried_failure, carried_well}
 use Rattle.litmus_command.proofs.command.finish.Goals as goal
-use Rattle.litmus_command.specs.Desks.{DeskState}
-use Rattle.litmus_command.specs.Command.{status_of}
+use Rattle.file_commands.specs.Desks.{DeskState}
+use Rattle.file_commands.specs.Statuses.{status_of}
 use Rattle.litmus_command.specs.Ends.{CommandEnds, IsCarriedOut}
-use Rattle.litmus_command.specs.declared.command.Failure.{Failure}
+use Rattle.file_commands.specs.declared.failure.Failure.{Failure}
 
 pub returns-in-Ok : goal.returns-in-Ok
 returns-in-Ok g c = λ request before plain ends.

@@ -4,10 +4,11 @@ use Rattle.cli.specs.declared.request.Request.TheVariants.{Replay}
 use Rattle.litmus_command.proofs.CommandLemmas.{err_ends, fails_of_file, fails_to_write, fails_unread, is_read_so}
 use Rattle.litmus_command.proofs.ResultLemmas.{replays_no_read, replays_no_sink}
 use Rattle.litmus_command.proofs.command.replay.Goals as goal
-use Rattle.litmus_command.specs.Desks.{DeskState}
-use Rattle.litmus_command.specs.Command.{read_failure, status_of}
-use Rattle.litmus_command.specs.declared.command.Failure.TheVariants.{Trace}
-use Rattle.litmus_command.specs.declared.desk.ReadFault.TheVariants as fault
+use Rattle.file_commands.specs.Desks.{DeskState}
+use Rattle.file_commands.specs.Failures.{read_failure}
+use Rattle.file_commands.specs.Statuses.{status_of}
+use Rattle.file_commands.specs.declared.failure.Failure.TheVariants.{Trace}
+use Rattle.file_commands.specs.declared.desk.ReadFault.TheVariants as fault
 use Rattle.litmus_command.specs.Replay.{IsLineOf}
 use Rattle.report_text.specs.Faults.{size_limit}
 use Rattle.report_text.specs.Sink.{CountsFailure, HoldsBeginning, appended}

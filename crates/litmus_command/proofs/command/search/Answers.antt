@@ -6,10 +6,12 @@ use Rattle.cli.specs.declared.request.SearchRequest.{SearchRequest}
 use Rattle.litmus_command.proofs.CommandLemmas.{ends_given, err_ends, fails_early, fails_of_file, fails_unread, found_with, is_read_so}
 use Rattle.litmus_command.proofs.ResultLemmas.{engine_no_read, spells_none_searched, writes_no_sink}
 use Rattle.litmus_command.proofs.command.search.Goals as goal
-use Rattle.litmus_command.specs.Desks.{DeskState}
-use Rattle.litmus_command.specs.Command.{IsFound, IsSearchedFor, read_failure, state_in, status_of, trace_path}
-use Rattle.litmus_command.specs.declared.command.Failure.TheVariants.{Engine}
-use Rattle.litmus_command.specs.declared.desk.ReadFault.TheVariants as fault
+use Rattle.file_commands.specs.Desks.{DeskState}
+use Rattle.file_commands.specs.Failures.{read_failure}
+use Rattle.file_commands.specs.Statuses.{status_of}
+use Rattle.litmus_command.specs.Command.{IsFound, IsSearchedFor, state_in, trace_path}
+use Rattle.file_commands.specs.declared.failure.Failure.TheVariants.{Engine}
+use Rattle.file_commands.specs.declared.desk.ReadFault.TheVariants as fault
 use Rattle.litmus_parse.specs.Text.{file_bytes}
 use Rattle.prepared_program.specs.declared.program_sites.settings.Settings.{Settings}
 use Rattle.search_output.specs.Texts.{IsRefused}

@@ -5,11 +5,13 @@ use Rattle.cli.specs.declared.request.Request.TheVariants.{Show}
 use Rattle.litmus_command.proofs.CommandLemmas.{done_with, ends_given, err_ends, fails_of_file, fails_unread, is_read_so}
 use Rattle.litmus_command.proofs.ResultLemmas.{draws_no_read, draws_no_sink}
 use Rattle.litmus_command.proofs.command.show.Goals as goal
-use Rattle.litmus_command.specs.Desks.{DeskState}
-use Rattle.litmus_command.specs.Command.{IsShown, read_failure, state_in, status_of, svg_path}
+use Rattle.file_commands.specs.Desks.{DeskState}
+use Rattle.file_commands.specs.Failures.{read_failure}
+use Rattle.file_commands.specs.Statuses.{status_of}
+use Rattle.litmus_command.specs.Command.{IsShown, state_in, svg_path}
 use Rattle.litmus_command.specs.Show.{IsDrawn}
-use Rattle.litmus_command.specs.declared.command.Failure.TheVariants.{Picture}
-use Rattle.litmus_command.specs.declared.desk.ReadFault.TheVariants as fault
+use Rattle.file_commands.specs.declared.failure.Failure.TheVariants.{Picture}
+use Rattle.file_commands.specs.declared.desk.ReadFault.TheVariants as fault
 use Rattle.picture_text.specs.declared.cells.Style.{Style}
 use Rattle.timeline.specs.picture.Drawn.{IsUndrawn}
 use Rattle.report_text.specs.Faults.{size_limit}

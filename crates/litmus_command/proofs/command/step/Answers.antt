@@ -5,11 +5,13 @@ use Rattle.cli.specs.declared.request.Request.TheVariants.{Step}
 use Rattle.litmus_command.proofs.CommandLemmas.{done_with, ends_given, err_ends, fails_early, fails_of_file, fails_unread, is_read_so}
 use Rattle.litmus_command.proofs.ResultLemmas.{engine_no_read, some_items, spells_none, writes_no_sink}
 use Rattle.litmus_command.proofs.command.step.Goals as goal
-use Rattle.litmus_command.specs.Desks.{DeskState}
-use Rattle.litmus_command.specs.Command.{IsLeft, read_failure, state_in, status_of, trace_path}
+use Rattle.file_commands.specs.Desks.{DeskState}
+use Rattle.file_commands.specs.Failures.{read_failure}
+use Rattle.file_commands.specs.Statuses.{status_of}
+use Rattle.litmus_command.specs.Command.{IsLeft, state_in, trace_path}
 use Rattle.litmus_command.specs.Engine.{IsRefused, TextLeaves}
-use Rattle.litmus_command.specs.declared.command.Failure.TheVariants.{Engine}
-use Rattle.litmus_command.specs.declared.desk.ReadFault.TheVariants as fault
+use Rattle.file_commands.specs.declared.failure.Failure.TheVariants.{Engine}
+use Rattle.file_commands.specs.declared.desk.ReadFault.TheVariants as fault
 use Rattle.litmus_parse.specs.Text.{file_bytes}
 use Rattle.prepared_program.specs.step_schedule.Schedule.{entries_of}
 

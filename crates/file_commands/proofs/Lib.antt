@@ -1,0 +1,3 @@
+mod CheckLemmas
+mod FilesLemmas
+mod ListLemmas

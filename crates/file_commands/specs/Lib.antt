@@ -1,0 +1,11 @@
+pub mod Files
+pub mod StandardError
+pub mod Desks
+pub mod Failures
+pub mod Lists
+pub mod Settings
+pub mod Statuses
+pub mod Check
+pub mod FileWork
+pub mod FilesAsked
+pub mod Races

@@ -1,0 +1,80 @@
+-- What `races` and a search of several files do with their files.
+use Rattle.std.specs.Prelude.{ℕ}
+use Rattle.cli.specs.declared.request.RacesFormat.{RacesFormat}
+use Rattle.cli.specs.declared.request.RacesFormat.TheVariants as races_asked
+use Rattle.cli.specs.declared.request.RacesRequest.{RacesRequest}
+use Rattle.cli.specs.declared.request.SearchFormat.{SearchFormat}
+use Rattle.cli.specs.declared.request.SearchFormat.TheVariants as search_asked
+use Rattle.cli.specs.declared.request.SearchesRequest.{SearchesRequest}
+use Rattle.cli.specs.declared.request.Switches.{Switches}
+use Rattle.cli.specs.declared.request.Switches.TheVariants as switches
+use Rattle.file_commands.specs.Desks.{DeskState}
+use Rattle.file_commands.specs.FileWork as work
+use Rattle.file_commands.specs.FileWork.{Asked, FilesEnd}
+use Rattle.file_commands.specs.declared.work.Work.TheVariants as works
+use Rattle.file_commands.specs.declared.work.RacesWork.{RacesWork}
+use Rattle.search_formats.specs.declared.wanted.FileWanted.{FileWanted}
+use Rattle.race_output.specs.declared.file.Format as races_format
+use Rattle.race_output.specs.declared.file.Format.TheVariants as races_formats
+use Rattle.search_formats.specs.declared.wanted.Format as search_format
+use Rattle.search_formats.specs.declared.wanted.Format.TheVariants as search_formats
+use Rattle.search_formats.specs.declared.wanted.Preemptions.{Preemptions}
+use Rattle.search_formats.specs.declared.wanted.Preemptions.TheVariants as preemptions
+
+-- how races are written
+abbrev pub format_of : RacesFormat → races_format.Format
+format_of races_asked.Text = races_formats.Text
+format_of races_asked.Json = races_formats.Json
+
+-- how what a search finds is written
+abbrev pub search_format_of : SearchFormat → search_format.Format
+search_format_of search_asked.Text = search_formats.Text
+search_format_of search_asked.Json = search_formats.Json
+search_format_of search_asked.Csv = search_formats.Csv
+search_format_of search_asked.Herd = search_formats.Herd
+
+-- how many preemptions a schedule may have that is searched
+abbrev pub preemptions_of : Switches → Preemptions
+preemptions_of (switches.AtMost most) = preemptions.AtMost most
+preemptions_of switches.All = preemptions.Any
+
+-- how races are looked for, and written
+abbrev pub races_work : RacesRequest → RacesWork
+races_work request = record { wanted = record { limit = request.limit; seconds = request.seconds }; format = format_of request.format }
+
+-- how files are searched, and what is found is written
+abbrev pub search_work : SearchesRequest → FileWanted
+search_work request = record {
+  preemptions = preemptions_of request.switches;
+  limit = request.limit;
+  seconds = request.seconds;
+  format = search_format_of request.format;
+}
+
+-- what `races` is asked to do with its files
+abbrev pub asked_of_races : RacesRequest → Asked
+asked_of_races request = record {
+  files = request.files.items;
+  options = request.options;
+  work = works.Races (races_work request);
+}
+
+-- what a search of several files is asked to do with them
+abbrev pub asked_of_search : SearchesRequest → Asked
+asked_of_search request = record {
+  files = request.files.items;
+  options = request.options;
+  work = works.Search (search_work request);
+}
+
+-- there are several files whose races are looked for
+abbrev pub AreSeveral : RacesRequest → Type 0
+AreSeveral request = work.AreSeveral (asked_of_races request)
+
+-- how `races` ends
+abbrev pub RacesEnds : RacesRequest → (status : ℕ) → DeskState → DeskState → Type 0
+RacesEnds request status before after = FilesEnd (asked_of_races request) status before after
+
+-- how a search of several files ends, or one that is written for programs
+abbrev pub SearchesEnd : SearchesRequest → (status : ℕ) → DeskState → DeskState → Type 0
+SearchesEnd request status before after = FilesEnd (asked_of_search request) status before after

@@ -1,0 +1,14 @@
+//! What goes over litmus files: the check of files, their races, and searches of several, over any desk; what a desk is,
+//! why the program does not end well, and what a program is run under.
+#![tactic(auto)]
+
+pub mod check;
+pub mod complaint;
+pub mod desk;
+pub mod failure;
+pub mod files;
+pub mod settings;
+mod work;
+
+pub use run_stats::Progress;
+pub use search_output::SearchProgress;
