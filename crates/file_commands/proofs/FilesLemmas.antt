@@ -102,10 +102,10 @@ unread_said asked settings name text check status why said before middle after s
         }
 
 -- so many files were counted
-abbrev total : FileCounts → ℕ
+abbrev pub total : FileCounts → ℕ
 total counts = counts.free + counts.reported + counts.missed + counts.refused + counts.stopped
 
-total_counted : (counts : FileCounts) (verdict : Option FileVerdict) → total (counted counts verdict) ≡ total counts + 1
+pub total_counted : (counts : FileCounts) (verdict : Option FileVerdict) → total (counted counts verdict) ≡ total counts + 1
 total_counted counts (Some verdicts.Free) = omega arith
 total_counted counts (Some verdicts.Reported) = omega arith
 total_counted counts (Some verdicts.Missed) = omega arith
@@ -119,18 +119,21 @@ total_of (verdict ∷ more) counts =
     let first = total_counted counts verdict in omega (arith, rest, first)
 
 -- one file more can be counted, where there can be one more
+pub can_count_more : (counts : FileCounts) (count : ℕ) → total counts ≡ count → count + 1 < 2 ^ 64 → CanCount counts
+can_count_more counts count all fits = record {
+  free = omega (arith, all, fits);
+  reported = omega (arith, all, fits);
+  missed = omega (arith, all, fits);
+  refused = omega (arith, all, fits);
+  stopped = omega (arith, all, fits);
+}
+
 pub can_count : (founds : List FileFound) (counts : FileCounts) → counts ≡ counts_of founds → length founds + 1 < 2 ^ 64 → CanCount counts
 can_count founds counts is fits =
     let all = total_of (map verdict_in founds) no_counts in
     let same : total counts ≡ total (counts_of founds) = ap total is in
     let many : length (map verdict_in founds) ≡ length founds = length-map founds verdict_in in
-    record {
-      free = omega (arith, all, same, many, fits);
-      reported = omega (arith, all, same, many, fits);
-      missed = omega (arith, all, same, many, fits);
-      refused = omega (arith, all, same, many, fits);
-      stopped = omega (arith, all, same, many, fits);
-    }
+    can_count_more counts (length founds) (omega (arith, all, same, many)) fits
 
 -- so many files were looked into: what was found of them, what is printed of these, how many have which verdict, and
 -- their greatest status

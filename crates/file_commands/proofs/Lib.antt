@@ -1,3 +1,4 @@
 mod CheckLemmas
 mod FilesLemmas
 mod ListLemmas
+mod TogetherLemmas

@@ -32,6 +32,7 @@ use Rattle.race_output.specs.declared.file.Format.TheVariants as races_formats
 use Rattle.output_pieces.specs.declared.file_counts.FileCounts.{FileCounts}
 use Rattle.race_output.specs.declared.words.FileVerdict.{FileVerdict}
 use Rattle.race_output.specs.declared.words.FileVerdict.TheVariants as verdicts
+use Rattle.report_text.specs.Sink.{CountsFailure}
 use Rattle.run_output.specs.declared.error.EngineError.{EngineError}
 use Rattle.run_output.specs.declared.error.EngineError.TheVariants as engine
 use Rattle.search_formats.specs.Files.{IsFileSearched}
@@ -43,11 +44,12 @@ use Rattle.search_formats.specs.declared.refusal.Refusal.{Refusal}
 use Rattle.search_formats.specs.declared.refusal.Refusal.TheVariants as refusals
 use Rattle.search_output.specs.Texts.{IsRefused}
 
--- the names of the files, the options, and what is done with each file
+-- the names of the files, the options, what is done with each file, and how many threads may share several files
 pub record Asked : Type 0 where
   pub files : List (Bor (List ℕ))
   pub options : RunOptions
   pub work : Work
+  pub jobs : ℕ
 
 -- there are several files
 abbrev pub AreSeveral : Asked → Type 0
@@ -346,6 +348,42 @@ pub record FilesAreLeftOut (asked : Asked) (status : ℕ) (before after : DeskSt
   pub status_is : status ≡ 71
   pub told : after ≡ once_told (complaints.Failure failure.OutOfMemory) middle
 
+-- a file of a name was read: it gave this text, or none, where it can't be read
+pub record FileRead : Type 0 where
+  pub name : List ℕ
+  pub text : Option (List ℕ)
+
+-- so it was read, and nothing was told
+abbrev pub IsTextRead : (name : List ℕ) → (text : Option (List ℕ)) → DeskState → DeskState → Type 0
+IsTextRead name (Some text) before after = after ≡ once_given name text before
+IsTextRead name None before after = (after ≡ record before { faults = after.faults }) × CountsFailure before.faults after.faults
+
+-- so it was with file after file
+abbrev pub AreRead : List FileRead → DeskState → DeskState → Type 0
+AreRead [] before after = after ≡ before
+AreRead (read ∷ more) before after = (middle : DeskState) × IsTextRead read.name read.text before middle × AreRead more middle after
+
+-- Several threads were to share several files, and memory ran out. The first files were looked into, as many as these,
+-- and of them what is to be told was told, in their order; files that stand behind them were read, and nothing was told
+-- of these.
+pub record AreLeftTogether (asked : Asked) (before after : DeskState) : Type 0 where
+  pub several : AreSeveral asked
+  pub jobs : 1 < asked.jobs
+  pub founds : List FileFound
+  pub middle : DeskState
+  pub looks : LooksInto asked founds before middle
+  pub reads : List FileRead
+  pub names : map file_of founds ++ map (λ (read : FileRead). read.name) reads
+      ≡ take (length founds + length reads) (map (λ file. file.now) asked.files)
+  pub are_read : AreRead reads middle after
+
+-- so it was, and nothing was printed
+pub record FilesAreLeftTogether (asked : Asked) (status : ℕ) (before after : DeskState) : Type 0 where
+  pub middle : DeskState
+  pub left : AreLeftTogether asked before middle
+  pub status_is : status ≡ 71
+  pub told : after ≡ once_told (complaints.Failure failure.OutOfMemory) middle
+
 -- the place list doesn't read: that was told, and no file was asked for
 pub record PlacesDoNotRead (asked : Asked) (status : ℕ) (before after : DeskState) : Type 0 where
   pub unread : SpellsNoPlaces asked.options.places.now
@@ -356,5 +394,6 @@ pub record PlacesDoNotRead (asked : Asked) (status : ℕ) (before after : DeskSt
 pub data FilesEnd (asked : Asked) (status : ℕ) (before after : DeskState) : Type 0 where
   AllSearched : FilesAreSearched asked status before after → FilesEnd asked status before after
   LeftOut : FilesAreLeftOut asked status before after → FilesEnd asked status before after
+  LeftTogether : FilesAreLeftTogether asked status before after → FilesEnd asked status before after
   Misplaced : PlacesDoNotRead asked status before after → FilesEnd asked status before after
   Early : IsOutOfMemory status before after → FilesEnd asked status before after

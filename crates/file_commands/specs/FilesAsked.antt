@@ -4,4 +4,4 @@ use Rattle.file_commands.specs.declared.files.FilesAsked.{FilesAsked}
 
 -- what is asked, without where the names lie in memory
 abbrev pub asked_by : FilesAsked → Asked
-asked_by asked = record { files = asked.files.now; options = asked.options; work = asked.work }
+asked_by asked = record { files = asked.files.now; options = asked.options; work = asked.work; jobs = asked.jobs }

@@ -9,3 +9,4 @@ pub mod Check
 pub mod FileWork
 pub mod FilesAsked
 pub mod Races
+pub mod Together

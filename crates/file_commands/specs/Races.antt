@@ -57,6 +57,7 @@ asked_of_races request = record {
   files = request.files.items;
   options = request.options;
   work = works.Races (races_work request);
+  jobs = request.jobs;
 }
 
 -- what a search of several files is asked to do with them
@@ -65,6 +66,7 @@ asked_of_search request = record {
   files = request.files.items;
   options = request.options;
   work = works.Search (search_work request);
+  jobs = request.jobs;
 }
 
 -- there are several files whose races are looked for

@@ -19,6 +19,7 @@ use crate::complaint::Complaint;
 use crate::desk::{Desk, ReadFault};
 use crate::failure::{Failure, NO_REPORT, OUT_OF_MEMORY, REPORTED, STOPPED, advise_check};
 use crate::settings::settings_for;
+use crate::together::carry_together;
 use crate::work::{
     RacesWork, TextFound, Work, begun, find, is_text, last_line, under_name, unsearched, worse,
 };
@@ -31,9 +32,10 @@ use race_output::{FileVerdict, RacesWanted};
 use run_output::EngineError;
 use search_formats::{FileWanted, Preemptions, Refusal};
 use std::alloc::{AllocError, Global};
+use std::thread::Threads;
 
 /// No file was counted.
-const NO_COUNTS: FileCounts = FileCounts {
+pub(crate) const NO_COUNTS: FileCounts = FileCounts {
     free: 0,
     reported: 0,
     missed: 0,
@@ -44,24 +46,26 @@ const NO_COUNTS: FileCounts = FileCounts {
 /// The files that are asked for, and what is done with each.
 #[derive(Clone, Copy)]
 pub(crate) struct FilesAsked<'a> {
-    files: &'a [&'a str],
-    options: RunOptions<'a>,
-    work: Work,
+    pub(crate) files: &'a [&'a str],
+    pub(crate) options: RunOptions<'a>,
+    pub(crate) work: Work,
+    /// How many threads may share several files.
+    pub(crate) jobs: u64,
 }
 
 /// What is said of a file.
 #[derive(Drop)]
-struct FileSaid {
+pub(crate) struct FileSaid {
     /// What is printed of it.
-    text: Vec<u8>,
+    pub(crate) text: Vec<u8>,
     /// The verdict, if there is one.
-    verdict: Option<FileVerdict>,
+    pub(crate) verdict: Option<FileVerdict>,
     /// The status that it would have alone.
-    status: u8,
+    pub(crate) status: u8,
 }
 
 /// What `check` would be asked of all files.
-fn files_for(asked: &FilesAsked<'_>) -> Files
+pub(crate) fn files_for(asked: &FilesAsked<'_>) -> Files
     ensures { result ≡ files_of (asked_by asked.now) }
 {
     Files {
@@ -89,7 +93,7 @@ fn verdict_status(verdict: FileVerdict) -> u8
 }
 
 /// One file more, with this verdict or none.
-fn counted(counts: FileCounts, verdict: Option<FileVerdict>) -> FileCounts
+pub(crate) fn counted(counts: FileCounts, verdict: Option<FileVerdict>) -> FileCounts
     requires { CanCount counts }
     ensures { result ≡ spec.counted counts verdict }
 {
@@ -136,7 +140,7 @@ fn printed(
 }
 
 /// What is said of a file that is passed over with this status, of which this is printed.
-fn passed_over(text: Vec<u8>, status: u8) -> FileSaid
+pub(crate) fn passed_over(text: Vec<u8>, status: u8) -> FileSaid
     ensures text { result.text ≡ text }
     ensures verdict { result.verdict ≡ None }
     ensures status { result.status ≡ status }
@@ -159,7 +163,7 @@ fn refusal_in(error: EngineError) -> Refusal
 }
 
 /// Tells why a file of this name has no output, and answers what is said of it. Want of memory is not told.
-fn refuse<D: Desk>(
+pub(crate) fn refuse<D: Desk>(
     alloc: Global,
     work: Work,
     error: EngineError,
@@ -182,7 +186,7 @@ fn refuse<D: Desk>(
 }
 
 /// What is said of a file of this name of whose text this was found.
-fn said_of(
+pub(crate) fn said_of(
     alloc: Global,
     asked: &FilesAsked<'_>,
     name: &str,
@@ -220,7 +224,7 @@ fn look_into<D: Desk>(
 }
 
 /// The status of a text that isn't read as a program, and why it isn't, by what comes of it.
-fn refused_by(comes: &Comes) -> Option<(u8, Refusal)>
+pub(crate) fn refused_by(comes: &Comes) -> Option<(u8, Refusal)>
     ensures { (files : Files) (name : List ℕ) (check : Check) → IsMadeOf files name check comes.now
         → result ≡ spec.refused_by check }
 {
@@ -281,7 +285,7 @@ fn look_into_text<D: Desk>(
 }
 
 /// Tells that a file of this name can't be read, and answers what is said of it.
-fn tell_lost<D: Desk>(
+pub(crate) fn tell_lost<D: Desk>(
     alloc: Global,
     asked: &FilesAsked<'_>,
     name: &str,
@@ -317,7 +321,7 @@ fn look_into_file<D: Desk>(
 }
 
 /// What is printed, with the line behind it that counts the files, if there is to be one.
-fn with_last_line(
+pub(crate) fn with_last_line(
     alloc: Global,
     asked: &FilesAsked<'_>,
     mut output: Vec<u8>,
@@ -430,9 +434,31 @@ fn search_work(request: &SearchesRequest<'_>) -> FileWanted
     }
 }
 
+/// Goes over the files that are asked for: where there are several, as many threads share them as are asked for.
+fn carry_asked<R: Threads + Sync, D: Desk + Sync>(
+    rt: &R,
+    alloc: Global,
+    asked: &FilesAsked<'_>,
+    desk: &mut D,
+) -> u8
+    requires bounds { KeepsBounds asked.now.options }
+    requires some { 0 < length asked.now.files.now }
+    ensures { FilesEnd (asked_by asked.now) result (D.state desk.old) (D.state desk.new) }
+{
+    if asked.files.len() > 1 && asked.jobs > 1 {
+        return carry_together(rt, alloc, asked, desk);
+    }
+    carry_files(alloc, asked, desk)
+}
+
 /// Looks for the races of the files that are asked for, and answers the status that the program ends with: the greatest
 /// of those that they would have alone.
-pub fn carry_races<D: Desk>(alloc: Global, request: &RacesRequest<'_>, desk: &mut D) -> u8
+pub fn carry_races<R: Threads + Sync, D: Desk + Sync>(
+    rt: &R,
+    alloc: Global,
+    request: &RacesRequest<'_>,
+    desk: &mut D,
+) -> u8
     requires { KeepsRacesBounds request.now }
     ensures { RacesEnds request.now result (D.state desk.old) (D.state desk.new) }
 {
@@ -440,12 +466,14 @@ pub fn carry_races<D: Desk>(alloc: Global, request: &RacesRequest<'_>, desk: &mu
         files: request.files.as_slice(),
         options: request.options,
         work: Work::Races(races_work(request)),
+        jobs: request.jobs,
     };
-    carry_files(alloc, &asked, desk)
+    carry_asked(rt, alloc, &asked, desk)
 }
 
 /// Searches the programs of the files that are asked for, and answers the status that the program ends with.
-pub fn carry_searches<D: Desk>(
+pub fn carry_searches<R: Threads + Sync, D: Desk + Sync>(
+    rt: &R,
     alloc: Global,
     request: &SearchesRequest<'_>,
     desk: &mut D,
@@ -457,6 +485,7 @@ pub fn carry_searches<D: Desk>(
         files: request.files.as_slice(),
         options: request.options,
         work: Work::Search(search_work(request)),
+        jobs: request.jobs,
     };
-    carry_files(alloc, &asked, desk)
+    carry_asked(rt, alloc, &asked, desk)
 }

@@ -1,4 +1,4 @@
-//! What goes over litmus files: the check of files, their races, and searches of several, over any desk; what a desk is,
+//! Commands over litmus files, over any desk: the check of files, their races, and searches of several. What a desk is,
 //! why the program does not end well, and what a program is run under.
 #![tactic(auto)]
 
@@ -8,6 +8,7 @@ pub mod desk;
 pub mod failure;
 pub mod files;
 pub mod settings;
+mod together;
 mod work;
 
 pub use run_stats::Progress;

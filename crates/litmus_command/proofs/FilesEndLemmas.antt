@@ -12,11 +12,9 @@ use Rattle.file_commands.specs.Check.{IsLeftOver, IsPrinted}
 use Rattle.file_commands.specs.Desks.{DeskState, once_told}
 use Rattle.file_commands.specs.Files.{FileEvent, OnlyRead}
 use Rattle.file_commands.specs.FileWork as work
-use Rattle.file_commands.specs.FileWork.{AllSearched, AreLookedInto, Asked, Early, FileFound, FilesEnd, IsFileFound, IsLookedInto, LeftOut, Misplaced, PassedOver, Refused, Searched}
+use Rattle.file_commands.specs.FileWork.{AllSearched, AreLookedInto, Asked, Early, FileFound, FilesEnd, IsFileFound, IsLookedInto, LeftOut, LeftTogether, Misplaced, PassedOver, Refused, Searched}
 use Rattle.file_commands.specs.FileWork.{files_of, files_output_of, has_names, is_more, status_of_all, verdict_status_of}
-use Rattle.file_commands.specs.Races.{AreSeveral, RacesEnds, asked_of_races, races_work}
-use Rattle.file_commands.specs.declared.work.RacesWork.{RacesWork}
-use Rattle.file_commands.specs.declared.work.Work.TheVariants as works
+use Rattle.file_commands.specs.Races.{AreSeveral, RacesEnds, asked_of_races}
 use Rattle.file_commands.specs.Settings.{AskSettings}
 use Rattle.file_commands.specs.StandardError.{heard}
 use Rattle.file_commands.specs.Statuses.{engine_status_of, run_status_of, text_status_of}
@@ -133,23 +131,23 @@ greatest_alone : (n : ℕ) → max 0 n ≡ n
 greatest_alone n = omega arith
 
 -- the end of the races of one file, of which this was found
-one_looked_into : (files : Files) (own : RacesWork) (settings : Settings) (found : FileFound) (output : List ℕ) (status ends : ℕ)
-    (before middle after : DeskState) → files.several ≡ false → IsFileFound (works.Races own) settings found → IsLookedInto files found before middle
-    → output ≡ files_output_of false (works.Races own) (found ∷ []) → status ≡ status_of_all (works.Races own) (found ∷ []) → IsPrinted output status ends middle after
+one_looked_into : (files : Files) (request : RacesRequest) (settings : Settings) (found : FileFound) (output : List ℕ) (status ends : ℕ)
+    (before middle after : DeskState) → files.several ≡ false → IsFileFound (asked_of_races request).work settings found → IsLookedInto files found before middle
+    → output ≡ files_output_of false (asked_of_races request).work (found ∷ []) → status ≡ status_of_all (asked_of_races request).work (found ∷ []) → IsPrinted output status ends middle after
     → Ends ends before after
 unfolding IsOfVerdict
-one_looked_into files own settings (Searched name text output verdict) printed status ends before middle after one _ gone _ status_is (inl done) =
+one_looked_into files request settings (Searched name text output verdict) printed status ends before middle after one _ gone _ status_is (inl done) =
     ends_searched ends before after
     (subst IsOfVerdict (sym (done.0 ∙ (status_is ∙ greatest_alone (verdict_status_of verdict)))) (verdict_known verdict))
     (ap (λ (at : DeskState). at.told) done.1 ∙ ap (λ (at : DeskState). at.told) gone)
     (ap (λ (at : DeskState). at.faults) done.1 ∙ ap (λ (at : DeskState). at.faults) gone)
-one_looked_into files own settings (Searched name text output verdict) printed status ends before middle after one _ gone _ _ (inr fails) =
+one_looked_into files request settings (Searched name text output verdict) printed status ends before middle after one _ gone _ _ (inr fails) =
     ends_cut ends before after (complaint.Failure failure.CannotWrite) fails.ends_is refl tt
     (ap (λ (at : DeskState). at.told) fails.told
     ∙ ap (λ (t : Option (List Complaint)). heard t (complaint.Failure failure.CannotWrite)) (ap (λ (at : DeskState). at.told) gone))
     (ap (λ (at : DeskState). at.faults) fails.told ∙ ap (λ (at : DeskState). at.faults) gone)
     (subst (λ n. CountsFailure n after.failures) (ap (λ (at : DeskState). at.failures) gone) fails.failed)
-one_looked_into files own settings (Refused name text error) printed status ends before middle after one is_found gone output_is status_is done =
+one_looked_into files request settings (Refused name text error) printed status ends before middle after one is_found gone output_is status_is done =
     let is : status ≡ engine_status_of error = status_is ∙ greatest_alone (engine_status_of error) in
     let few : IsTold status = subst IsTold (sym is) (engine_told text settings error is_found.0 is_found.1) in
     told_one printed status ends before middle after (complaint.Failure (failure.Engine error)) few (sym is) tt output_is
@@ -157,30 +155,30 @@ one_looked_into files own settings (Refused name text error) printed status ends
     (reads_none status before.faults middle.faults (not_unread status few text settings error is_found.0 is)
     (ap (λ (at : DeskState). at.faults) gone))
     (ap (λ (at : DeskState). at.written) gone) (inr (name, file_bytes, text, ap (λ (at : DeskState). at.files) gone)) done
-one_looked_into files own settings (PassedOver why) printed status ends before middle after one is_found gone output_is status_is done =
+one_looked_into files request settings (PassedOver why) printed status ends before middle after one is_found gone output_is status_is done =
     one_found files settings why printed status ends before middle after one is_found.0 gone.1
     (output_is ∙ sym (none_printed files why is_found.1 one)) status_is done
 
 -- one file alone has no name over it
 no_names : (request : RacesRequest) → length request.files.items ≡ 1 → has_names (asked_of_races request) ≡ false
-no_names request one = ap (λ n. nat_lt 1 n && work.is_text (works.Races (races_work request))) one
+no_names request one = ap (λ n. nat_lt 1 n && work.is_text (asked_of_races request).work) one
 
 -- and no more is printed than of it
 one_alone : (request : RacesRequest) → length request.files.items ≡ 1 → is_more (asked_of_races request) ≡ false
-one_alone request one = ap (λ n. nat_lt 1 n || work.has_rows (works.Races (races_work request))) one
+one_alone request one = ap (λ n. nat_lt 1 n || work.has_rows (asked_of_races request).work) one
 
 -- the one file was looked into
 one_searched : (request : RacesRequest) (founds : List FileFound) (settings : Settings) (output : List ℕ) (status ends : ℕ)
     (before middle after : DeskState) → length request.files.items ≡ 1 → length founds ≡ length request.files.items
-    → All (IsFileFound (works.Races (races_work request)) settings) founds → AreLookedInto (files_of (asked_of_races request)) founds before middle
-    → output ≡ files_output_of (has_names (asked_of_races request)) (works.Races (races_work request)) founds → status ≡ status_of_all (works.Races (races_work request)) founds → IsPrinted output status ends middle after
+    → All (IsFileFound (asked_of_races request).work settings) founds → AreLookedInto (files_of (asked_of_races request)) founds before middle
+    → output ≡ files_output_of (has_names (asked_of_races request)) (asked_of_races request).work founds → status ≡ status_of_all (asked_of_races request).work founds → IsPrinted output status ends middle after
     → Ends ends before after
 one_searched request [] settings output status ends before middle after one all are_found gone output_is status_is done =
     absurd (let no : 0 ≡ 1 = all ∙ one in omega (arith, no))
 one_searched request (found ∷ []) settings output status ends before middle after one all are_found gone output_is status_is done =
-    one_looked_into (files_of (asked_of_races request)) (races_work request) settings found output status ends before middle after (ap (λ n. nat_lt 1 n) one)
+    one_looked_into (files_of (asked_of_races request)) request settings found output status ends before middle after (ap (λ n. nat_lt 1 n) one)
     (are_found 0 found (omega arith)) (subst (λ (at : DeskState). IsLookedInto (files_of (asked_of_races request)) found before at) (sym gone.2) gone.1)
-    (output_is ∙ ap (λ (b : Bool). files_output_of b (works.Races (races_work request)) (found ∷ [])) (no_names request one)) status_is done
+    (output_is ∙ ap (λ (b : Bool). files_output_of b (asked_of_races request).work (found ∷ [])) (no_names request one)) status_is done
 one_searched request (found ∷ other ∷ more) settings output status ends before middle after one all are_found gone output_is status_is done =
     absurd (let no : length (found ∷ other ∷ more) ≡ 1 = all ∙ one in omega (arith, no))
 
@@ -213,6 +211,7 @@ one_ends request status before after one (AllSearched it) =
 one_ends request status before after one (LeftOut it) =
     one_left_out request it.left.founds status before it.left.middle it.middle after one it.left.left it.left.looks.looked_into it.left.over
     it.status_is it.told
+one_ends request status before after one (LeftTogether it) = absurd (let several = it.left.several in omega (arith, one, several))
 one_ends request status before after one (Misplaced it) =
     ends_told status before after (complaint.Failure failure.BadPlace) (inl it.status_is) (sym it.status_is) tt
     (ap (λ (at : DeskState). at.told) it.told)
@@ -241,5 +240,6 @@ pub files_read : (asked : Asked) (status : ℕ) (before after : DeskState) → F
     → (settings : Settings) × AskSettings asked.options settings
 files_read asked status before after (AllSearched it) is = (it.searched.looks.settings, it.searched.looks.asks)
 files_read asked status before after (LeftOut it) is = (it.left.looks.settings, it.left.looks.asks)
+files_read asked status before after (LeftTogether it) is = (it.left.looks.settings, it.left.looks.asks)
 files_read asked status before after (Misplaced it) is = absurd (let other = it.status_is in omega (arith, is, other))
 files_read asked status before after (Early it) is = absurd (let other = it.status_is in omega (arith, is, other))

@@ -24,7 +24,6 @@ use Rattle.cli.specs.declared.request.Switches.TheVariants as switches
 use Rattle.litmus_parse.specs.Grammar.{SpellsProgram}
 use Rattle.litmus_parse.specs.Text.{file_bytes}
 use Rattle.litmus_syntax.specs.Tree as tree
-use Rattle.prepared_program.specs.place_list.Spelling as places
 use Rattle.report_text.specs.Faults.{size_limit}
 use Rattle.report_text.specs.Sink.{CountsFailure, HoldsBeginning, appended}
 use Rattle.run_stats.specs.Errors as tally
@@ -58,7 +57,6 @@ use Rattle.picture_text.specs.declared.cells.Style.TheVariants.{Ascii}
 use Rattle.timeline.specs.picture.Drawn.{IsUndrawn}
 use Rattle.timeline.specs.declared.picture.error.PictureError.{PictureError}
 use Rattle.file_commands.specs.StandardError.{heard}
-use Rattle.file_commands.specs.declared.failure.Failure.{Failure}
 use Rattle.file_commands.specs.declared.complaint.Complaint.{Complaint}
 use Rattle.file_commands.specs.declared.complaint.Complaint.TheVariants as complaint
 use Rattle.run_output.specs.declared.error.EngineError.{EngineError}

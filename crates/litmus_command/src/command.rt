@@ -29,7 +29,8 @@ use crate::search::search_for;
 use crate::show::drawn;
 use clap::error::ErrorKind;
 use cli::{
-    ReplayRequest, Request, RunRequest, SearchRequest, ShowRequest, StepRequest, asked, version_line,
+    ReplayRequest, Request, RunRequest, SearchRequest, ShowRequest, StepRequest, asked,
+    version_line,
 };
 use diagnostics::text_check::calls;
 use file_commands::check::carry_check;
@@ -54,13 +55,14 @@ use trace_replay::SIZE_LIMIT;
 /// with. The first word is the program's name.
 ///
 /// 0: no report, no race in files whose races are asked for, a trace that is accepted or drawn, files that read where
-/// they are checked, help, or the version. 2: a report, or a race in a file. 64: usage, a file that would be written over its input, a schedule that doesn't read or names a task that
-/// isn't there, or a place that doesn't read or doesn't suit. 65: the file is refused. 66: it can't be read. 70: a task
-/// is stuck. 71: out of memory, or a thread couldn't be started. 74: output can't be written. 75: a search was stopped,
-/// at its limit or after its seconds, and tells of no report or race. Of several files the greatest status counts. At 64
-/// to 71 nothing goes to standard output, but for what is printed of several files, and no file is written. At 74
-/// standard output and all files have what they had, or standard output has a beginning of what should stand there.
-pub fn command<R: Threads + Wait + Sync, S: AsStr, D: Desk>(
+/// they are checked, help, or the version. 2: a report, or a race in a file. 64: usage, a file that would be written
+/// over its input, a schedule that doesn't read or names a task that isn't there, or a place that doesn't read or
+/// doesn't suit. 65: the file is refused. 66: it can't be read. 70: a task is stuck. 71: out of memory, or a thread
+/// couldn't be started. 74: output can't be written. 75: a search was stopped, at its limit or after its seconds, and
+/// tells of no report or race. Of several files the greatest status counts. At 64 to 71 nothing goes to standard
+/// output, but for what is printed of several files, and no file is written. At 74 standard output and all files have
+/// what they had, or standard output has a beginning of what should stand there.
+pub fn command<R: Threads + Wait + Sync, S: AsStr, D: Desk + Sync>(
     rt: &R,
     alloc: Global,
     words: &[S],
@@ -120,7 +122,7 @@ pub fn command<R: Threads + Wait + Sync, S: AsStr, D: Desk>(
 }
 
 /// Does what is asked, and answers the status that the program ends with.
-pub fn carry_out<R: Threads + Wait + Sync, D: Desk>(
+pub fn carry_out<R: Threads + Wait + Sync, D: Desk + Sync>(
     rt: &R,
     alloc: Global,
     request: &Request<'_>,
@@ -155,8 +157,8 @@ pub fn carry_out<R: Threads + Wait + Sync, D: Desk>(
             finish(done, None, desk)
         }
         // These tell of each file that isn't read, and go on.
-        Request::Searches(request) => carry_searches(alloc, request, desk),
-        Request::Races(request) => carry_races(alloc, request, desk),
+        Request::Searches(request) => carry_searches(rt, alloc, request, desk),
+        Request::Races(request) => carry_races(rt, alloc, request, desk),
         Request::Check(request) => carry_check(alloc, request, desk),
         Request::Calls => {
             let done = list_calls(desk);

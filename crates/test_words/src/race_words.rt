@@ -14,6 +14,7 @@ fn races<'a>(alloc: Global, files: &[&'a str]) -> Result<RacesRequest<'a>, Alloc
         files,
         limit: 1_000_000,
         seconds: None,
+        jobs: 1,
         format: RacesFormat::Text,
         options: OPTIONS,
     })
@@ -27,6 +28,7 @@ fn races_are_asked_for(rt: HostRuntime) -> Result<(), Fail> {
     let two = RacesRequest {
         limit: 1,
         seconds: Some(1_000_000),
+        jobs: 64,
         format: RacesFormat::Json,
         ..races(alloc, &["t", "u"])?
     };
@@ -41,6 +43,8 @@ fn races_are_asked_for(rt: HostRuntime) -> Result<(), Fail> {
             "1",
             "--seconds",
             "1000000",
+            "--jobs",
+            "64",
             "--format",
             "json",
             "u",
