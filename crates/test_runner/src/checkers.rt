@@ -1,6 +1,6 @@
 //! Checks of three tasks that meet on the shared words, each on a thread of its own.
 
-ghost use Rattle.std.specs.Prelude.{◌≡◌, ◌<◌, [], All, IfOk};
+ghost use Rattle.std.specs.Prelude.{◌≡◌, ◌<◌, [], All};
 ghost use Rattle.std.specs.Thread.{IsSync};
 
 use crate::same::same;
@@ -9,10 +9,9 @@ use access_types::{Access, Kind, Operation, Sites, ticket};
 use setup_access::{Checker, Outcome, Rules};
 use shared_table::{SharedTable, TaskSeat};
 use slot_table::Step;
-use std::alloc::{AllocError, Global};
+use std::alloc::Global;
 use std::process::Abort;
 use std::sync::atomic::Ordering;
-use std::test::Fail;
 use std::thread;
 use std::thread::Threads;
 use watch_word::Layout;
@@ -148,28 +147,28 @@ fn all_checked<R: Abort + Threads + Sync>(
     table: &SharedTable,
     seats: Vec<TaskSeat>,
     gate: &Gate,
-) -> Result<Vec<TaskSeat>, AllocError>
+) -> Vec<TaskSeat>
     requires { All (λ seat. (seat.table ≡ table.now) × (seat.records ≡ [])) seats.items }
-    ensures { IfOk result (λ seats. All (λ seat. seat.table ≡ table.now) seats.items) }
+    ensures { All (λ seat. seat.table ≡ table.now) result.items }
 {
-    thread::map_vec(
+    let seats = thread::map_vec(
         rt,
         seats,
         &|seat: TaskSeat| -> TaskSeat
             requires { (seat.table ≡ table.now) × (seat.records ≡ []) × IsSync R.row }
             ensures { result.table ≡ table.entry.now }
         { checked(rt, alloc, table, seat, gate) },
-    )
+    );
+    seats.expect(rt, "memory")
 }
 
 #[test]
-fn two_finders(rt: HostRuntime) -> Result<(), Fail> {
-    let (table, seats) = opened(rt.alloc(), 3, &[0])?;
+fn two_finders(rt: HostRuntime) {
+    let (table, seats) = opened(rt.alloc(), 3, &[0]).expect(&rt, "a table");
     let gate = Gate::new();
-    let seats = all_checked(&rt, rt.alloc(), &table, seats, &gate)?;
+    let seats = all_checked(&rt, rt.alloc(), &table, seats, &gate);
     assert!(rt; table.gather(seats).is_some(), "a check is unfinished");
     same(&rt, gate.heard.load(Ordering::SeqCst), 1);
     same(&rt, gate.through.load(Ordering::SeqCst), 1);
     same(&rt, gate.lost.load(Ordering::SeqCst), 1);
-    Ok(())
 }

@@ -1,12 +1,13 @@
 //! Many runs, of which each is made once.
 
-use crate::runs::{Meeting, RACE, THOUSAND, TWO_STUCK, Unseen, has, parsed, settings, wait};
+use crate::runs::{
+    Meeting, RACE, THOUSAND, TWO_STUCK, Unseen, has, parsed, ran_often, settings, wait,
+};
 use crate::same::same;
 use litmus_step::Prepared;
-use run_stats::{Hooks, Progress, Times, run_text_often, run_text_with};
+use run_stats::{Hooks, Progress, Times, run_text_with};
 use runner::{Gate, HookPoint, NoStall, Open, RunError, RunIndex, Stall, run_batch};
 use std::sync::atomic::{AtomicU64, Ordering};
-use std::test::Fail;
 use trace_replay::{Accepted, replay};
 
 /// One plain read, which is watched, beside 200 marked reads of something else, which aren't.
@@ -170,7 +171,7 @@ impl<'a> Stall for RunOf<'a> {
 
 /// Runs whose reports are thrown away, or one that is counted for many, would begin more accesses or fewer.
 #[test]
-fn each_run_that_is_asked_for_is_made_once(rt: HostRuntime) -> Result<(), Fail> {
+fn each_run_that_is_asked_for_is_made_once(rt: HostRuntime) {
     let alloc = rt.alloc();
     let strict = settings(alloc, true, 1_000_000_000);
     for jobs in [1, 3] {
@@ -194,12 +195,17 @@ fn each_run_that_is_asked_for_is_made_once(rt: HostRuntime) -> Result<(), Fail> 
             true,
             &counts,
             &hooks,
-        )?;
+        )
+        .expect(&rt, "runs");
         assert!(rt; left.raced);
         assert!(rt; has(left.output.as_slice(), "\nseen 3 times\n"));
         assert!(rt; has(left.output.as_slice(), " two-sided 3 "));
         let trace = left.trace.unwrap_or(Vec::new(alloc));
-        same(&rt, replay(alloc, trace.as_slice())?, ONE_RACE);
+        same(
+            &rt,
+            replay(alloc, trace.as_slice()).expect(&rt, "a trace"),
+            ONE_RACE,
+        );
         same(&rt, counts.runs.load(Ordering::SeqCst), 3);
         same(&rt, counts.reader_begins.load(Ordering::SeqCst), 3);
         same(&rt, counts.writer_begins.load(Ordering::SeqCst), 3);
@@ -207,12 +213,11 @@ fn each_run_that_is_asked_for_is_made_once(rt: HostRuntime) -> Result<(), Fail> 
         same(&rt, counts.ran_out.load(Ordering::SeqCst), 0);
         same(&rt, counts.told.load(Ordering::SeqCst), 10_609);
     }
-    Ok(())
 }
 
 /// One run that is counted as stuck for many would begin fewer accesses.
 #[test]
-fn each_stuck_run_is_made_once(rt: HostRuntime) -> Result<(), Fail> {
+fn each_stuck_run_is_made_once(rt: HostRuntime) {
     let alloc = rt.alloc();
     let settings = settings(alloc, false, 3);
     let counts = Counts::new();
@@ -234,17 +239,17 @@ fn each_stuck_run_is_made_once(rt: HostRuntime) -> Result<(), Fail> {
         false,
         &Unseen,
         &hooks,
-    )?;
+    )
+    .expect(&rt, "runs");
     assert!(rt; has(left.output.as_slice(), "\nstuck in 3 of 3 runs\n"));
     same(&rt, counts.runs.load(Ordering::SeqCst), 3);
     same(&rt, counts.reader_begins.load(Ordering::SeqCst), 3);
-    Ok(())
 }
 
 /// Of three runs the last two are one batch: a thread goes on with the next run while another is held in this one. With
 /// threads of its own for each run it couldn't.
 #[test]
-fn the_runs_of_a_batch_have_the_same_threads(rt: HostRuntime) -> Result<(), Fail> {
+fn the_runs_of_a_batch_have_the_same_threads(rt: HostRuntime) {
     let alloc = rt.alloc();
     let settings = settings(alloc, false, 1_000_000);
     let counts = Counts::new();
@@ -254,31 +259,29 @@ fn the_runs_of_a_batch_have_the_same_threads(rt: HostRuntime) -> Result<(), Fail
         ..THOUSAND
     };
     let text = RACE.as_bytes();
-    let left = run_text_with(&rt, alloc, text, &settings, times, false, &Unseen, &hooks)?;
+    let left = run_text_with(&rt, alloc, text, &settings, times, false, &Unseen, &hooks).expect(
+        &rt, "runs",
+    );
     assert!(rt; has(left.output.as_slice(), " of 3 runs\n"));
     same(&rt, counts.reader_begins.load(Ordering::SeqCst), 3);
     same(&rt, counts.ran_out.load(Ordering::SeqCst), 0);
-    Ok(())
 }
 
 /// The access of the first task is watched until the second, of 200 accesses, makes no step more: so its end draws the
 /// last stamp.
 #[test]
-fn a_long_delay_lasts_until_nobody_can_come(rt: HostRuntime) -> Result<(), Fail> {
+fn a_long_delay_lasts_until_nobody_can_come(rt: HostRuntime) {
     let alloc = rt.alloc();
-    let settings = settings(alloc, false, 1_000_000);
     let times = Times {
         runs: 1,
         delay: 1_000_000_000,
         ..THOUSAND
     };
-    let text = BESIDE.as_bytes();
     for _ in 0..10 {
-        let left = run_text_often(&rt, alloc, text, &settings, times, true, &Unseen)?;
+        let left = ran_often(&rt, alloc, BESIDE, 1_000_000, times);
         let trace = left.trace.unwrap_or(Vec::new(alloc));
         assert!(rt; has(trace.as_slice(), " 401\naccess 1 0 "));
     }
-    Ok(())
 }
 
 /// The turn of a number in which a task starts first.
@@ -288,20 +291,21 @@ fn turn(number: u64, first: usize) -> RunIndex {
 
 /// Each run of a batch has words, a gate and a stall of its own: in each the race is found once.
 #[test]
-fn a_batch_makes_each_of_its_runs(rt: HostRuntime) -> Result<(), Fail> {
+fn a_batch_makes_each_of_its_runs(rt: HostRuntime) {
     let alloc = rt.alloc();
-    let program = parsed(alloc, RACE)?;
+    let program = parsed(&rt, alloc, RACE);
     let strict = settings(alloc, true, 1_000_000_000);
-    let prepared = Prepared::new(alloc, &program, &strict)?;
+    let prepared = Prepared::new(alloc, &program, &strict).expect(&rt, "a program that can run");
     let turns = [turn(7, 1), turn(8, 0), turn(9, 1)];
     let meetings = [Meeting::new(), Meeting::new(), Meeting::new()];
     let all = run_batch(
         &rt, alloc, &program, &strict, &prepared, &turns, &meetings, &meetings,
-    )?;
+    )
+    .expect(&rt, "a batch");
     same(&rt, all.len(), 3);
     let mut number = 7;
     for ran in all {
-        let ran = ran?;
+        let ran = ran.expect(&rt, "a run");
         same(&rt, ran.number(), number);
         same(&rt, ran.reports().len(), 1);
         same(&rt, ran.counters().two_sided, 1);
@@ -310,34 +314,31 @@ fn a_batch_makes_each_of_its_runs(rt: HostRuntime) -> Result<(), Fail> {
     for meeting in &meetings {
         same(&rt, meeting.ran_out.load(Ordering::SeqCst), 0);
     }
-    Ok(())
 }
 
 /// A stuck run is one of its own: the threads go on with the next.
 #[test]
-fn a_batch_goes_on_behind_a_stuck_run(rt: HostRuntime) -> Result<(), Fail> {
+fn a_batch_goes_on_behind_a_stuck_run(rt: HostRuntime) {
     let alloc = rt.alloc();
-    let program = parsed(alloc, TWO_STUCK)?;
+    let program = parsed(&rt, alloc, TWO_STUCK);
     let settings = settings(alloc, false, 3);
-    let prepared = Prepared::new(alloc, &program, &settings)?;
+    let prepared = Prepared::new(alloc, &program, &settings).expect(&rt, "a program that can run");
     let turns = [turn(0, 0), turn(1, 2)];
     let stalls = [NoStall, NoStall];
     let gates = [Open, Open];
     let all = run_batch(
         &rt, alloc, &program, &settings, &prepared, &turns, &stalls, &gates,
-    )?;
+    )
+    .expect(&rt, "a batch");
     same(&rt, all.len(), 2);
     for ran in all {
         same(&rt, ran.err(), Some(RunError::Stuck { task: 1 }));
     }
-    Ok(())
 }
 
 /// Runs in batches of many sizes, without a delay and with one: all are counted, and with a delay some find the race.
 #[test]
-fn batches_are_as_many_runs_as_are_asked_for(rt: HostRuntime) -> Result<(), Fail> {
-    let alloc = rt.alloc();
-    let settings = settings(alloc, false, 1_000_000);
+fn batches_are_as_many_runs_as_are_asked_for(rt: HostRuntime) {
     for (delay, jobs) in [(64, 1), (0, 1), (64, 3), (0, 3)] {
         let times = Times {
             runs: 200,
@@ -345,10 +346,8 @@ fn batches_are_as_many_runs_as_are_asked_for(rt: HostRuntime) -> Result<(), Fail
             jobs,
             ..THOUSAND
         };
-        let text = RACE.as_bytes();
-        let left = run_text_often(&rt, alloc, text, &settings, times, true, &Unseen)?;
+        let left = ran_often(&rt, rt.alloc(), RACE, 1_000_000, times);
         assert!(rt; has(left.output.as_slice(), " of 200 runs\n"));
         assert!(rt; left.raced || delay == 0);
     }
-    Ok(())
 }

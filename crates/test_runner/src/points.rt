@@ -4,7 +4,6 @@ use crate::runs::{RACE, parsed, settings, wait};
 use crate::same::same;
 use runner::{Gate, HookPoint, NoStall, Stall, run_once};
 use std::sync::atomic::{AtomicU64, Ordering};
-use std::test::Fail;
 
 /// At which place among the calls of a task each call came last; 0 where it didn't.
 #[derive(Drop)]
@@ -137,34 +136,36 @@ impl Gate for InTurn {
 }
 
 #[test]
-fn hooks_come_in_their_order(rt: HostRuntime) -> Result<(), Fail> {
+fn hooks_come_in_their_order(rt: HostRuntime) {
     let alloc = rt.alloc();
-    let program = parsed(alloc, RACE)?;
+    let program = parsed(&rt, alloc, RACE);
     let strict = settings(alloc, true, 1_000_000_000);
     let crossing = Crossing::new();
-    let ran = run_once(&rt, alloc, &program, &strict, &crossing, &crossing)?;
+    let ran = run_once(&rt, alloc, &program, &strict, &crossing, &crossing).expect(&rt, "a run");
     same(&rt, ran.reports().len(), 1);
     same(&rt, crossing.reader.all(), [1, 2, 3, 0, 4, 5]);
     same(&rt, crossing.writer.all(), [1, 0, 0, 2, 3, 4]);
     same(&rt, crossing.ran_out.load(Ordering::SeqCst), 0);
-    Ok(())
 }
 
 #[test]
-fn begins_and_ends_stand_beside_their_steps(rt: HostRuntime) -> Result<(), Fail> {
+fn begins_and_ends_stand_beside_their_steps(rt: HostRuntime) {
     let alloc = rt.alloc();
-    let program = parsed(alloc, RACE)?;
+    let program = parsed(&rt, alloc, RACE);
     let strict = settings(alloc, true, 1_000_000_000);
     let in_turn = InTurn {
         crossing: Crossing::new(),
     };
-    let ran = run_once(&rt, alloc, &program, &strict, &NoStall, &in_turn)?;
-    let mut stamps = Vec::with_capacity(alloc, 4)?;
-    for access in ran.accesses(alloc)? {
-        stamps.push(access.begin())?;
-        stamps.push(access.end())?;
-    }
-    same(&rt, stamps.as_slice(), [0, 1, 2, 3].as_slice());
+    let ran = run_once(&rt, alloc, &program, &strict, &NoStall, &in_turn).expect(&rt, "a run");
+    let accesses = ran.accesses(alloc).expect(&rt, "memory");
+    let [one, other] = accesses.as_slice() else {
+        assert!(rt; false, "two accesses");
+        return;
+    };
+    same(
+        &rt,
+        [one.begin(), one.end(), other.begin(), other.end()],
+        [0, 1, 2, 3],
+    );
     same(&rt, in_turn.crossing.ran_out.load(Ordering::SeqCst), 0);
-    Ok(())
 }

@@ -1,20 +1,20 @@
 //! Programs on real threads.
 
-ghost use Rattle.std.specs.Prelude.{◌≤◌, IfOk};
+ghost use Rattle.std.specs.Prelude.{◌≤◌};
 ghost use Rattle.litmus_syntax.specs.Limits.{KeepsLimits};
 ghost use Rattle.litmus_syntax.specs.Views.{program_of};
 
 use crate::same::same;
-use litmus_parse::{ParseError, Program, parse};
+use litmus_parse::{Program, parse};
 use litmus_step::{Prepared, Settings};
-use run_stats::{Delay, EngineError, Progress, Times, Written, run_text_often};
+use run_stats::{Delay, Progress, Times, Written, run_text_often};
 use runner::{
     Gate, HookPoint, NoStall, Open, RunError, RunIndex, RunResult, Stall, run_once, run_prepared,
 };
 use std::alloc::{AllocError, Global};
+use std::process::Abort;
 use std::sync::Wait;
 use std::sync::atomic::{AtomicU64, Ordering};
-use std::test::Fail;
 use std::thread;
 use std::thread::Threads;
 use watch_word::Layout;
@@ -43,10 +43,10 @@ pub(crate) const TWO_STUCK: &str =
     "C stuck\n\n{}\n\nP0(int *x)\n{\n\tWRITE_ONCE(*x, 1);\n}\n\nP1(spinlock_t *a)\n{\n\tspin_lock(a);\n\tspin_lock(a);\n}\n\nP2(spinlock_t *b)\n{\n\tspin_lock(b);\n\tspin_lock(b);\n}\n\nexists (true)\n";
 
 /// The program that a text spells.
-pub(crate) fn parsed(alloc: Global, text: &str) -> Result<Program, ParseError>
-    ensures { IfOk result (λ program. KeepsLimits (program_of program)) }
+pub(crate) fn parsed<R: Abort>(rt: &R, alloc: Global, text: &str) -> Program
+    ensures { KeepsLimits (program_of result) }
 {
-    parse(alloc, text.as_bytes())
+    parse(alloc, text.as_bytes()).expect(rt, "a program")
 }
 
 /// Every access is watched that may be; a strict run reports hits without a change of the value, and holds no plain
@@ -65,23 +65,28 @@ pub(crate) fn settings(alloc: Global, strict: bool, turns: u64) -> Settings {
     }
 }
 
-/// Sixteen tasks, each of which makes this statement.
-fn sixteen(alloc: Global, statement: &str) -> Result<String, AllocError> {
+/// Sixteen tasks, each of which makes this statement; where it is empty, each reads a variable of its own.
+fn sixteen<R: Abort>(rt: &R, alloc: Global, statement: &str) -> String {
     let mut text = String::new(alloc);
+    if push_sixteen(&mut text, statement).is_err() {
+        assert!(rt; false, "memory");
+    }
+    text
+}
+
+/// Writes sixteen tasks.
+fn push_sixteen(text: &mut String, statement: &str) -> Result<(), AllocError> {
     text.push_str("C sixteen\n\n{}\n\n")?;
     for task in 0..16 {
-        text.push_str(format!(in alloc;
-            "P{task}(int *x{task}, int *x)\n{{\n\tint r0;\n\n\t"
-        )?.as_str())?;
+        write!(text, "P{task}(int *x{task}, int *x)\n{{\n\tint r0;\n\n\t")?;
         if statement.is_empty() {
-            text.push_str(format!(in alloc; "r0 = *x{task};")?.as_str())?;
+            write!(text, "r0 = *x{task};")?;
         } else {
             text.push_str(statement)?;
         }
         text.push_str("\n}\n\n")?;
     }
-    text.push_str("exists (true)\n")?;
-    Ok(text)
+    text.push_str("exists (true)\n")
 }
 
 /// The first register of a task at the end.
@@ -224,12 +229,12 @@ impl Stall for Counted {
 }
 
 #[test]
-fn stall_holds_until_told(rt: HostRuntime) -> Result<(), Fail> {
+fn stall_holds_until_told(rt: HostRuntime) {
     let alloc = rt.alloc();
-    let program = parsed(alloc, RACE)?;
+    let program = parsed(&rt, alloc, RACE);
     let meeting = Meeting::new();
     let strict = settings(alloc, true, 1_000_000_000);
-    let ran = run_once(&rt, alloc, &program, &strict, &meeting, &meeting)?;
+    let ran = run_once(&rt, alloc, &program, &strict, &meeting, &meeting).expect(&rt, "a run");
     let counters = ran.counters();
     same(
         &rt,
@@ -238,116 +243,108 @@ fn stall_holds_until_told(rt: HostRuntime) -> Result<(), Fail> {
     );
     same(&rt, ran.reports().len(), 1);
     same(&rt, meeting.ran_out.load(Ordering::SeqCst), 0);
-    Ok(())
 }
 
 #[test]
-fn all_begin(rt: HostRuntime) -> Result<(), Fail> {
+fn all_begin(rt: HostRuntime) {
     let alloc = rt.alloc();
-    let text = sixteen(alloc, "r0 = READ_ONCE(*x);")?;
-    let program = parsed(alloc, text.as_str())?;
+    let text = sixteen(&rt, alloc, "r0 = READ_ONCE(*x);");
+    let program = parsed(&rt, alloc, text.as_str());
     let start = Start {
         there: AtomicU64::new(0),
         ran_out: AtomicU64::new(0),
     };
     let settings = settings(alloc, false, 1_000_000_000);
-    let ran = run_once(&rt, alloc, &program, &settings, &NoStall, &start)?;
+    let ran = run_once(&rt, alloc, &program, &settings, &NoStall, &start).expect(&rt, "a run");
     same(&rt, ran.tasks(), 16);
     same(&rt, start.there.load(Ordering::SeqCst), 16);
     same(&rt, start.ran_out.load(Ordering::SeqCst), 0);
-    Ok(())
 }
 
 #[test]
-fn own_write_read(rt: HostRuntime) -> Result<(), Fail> {
+fn own_write_read(rt: HostRuntime) {
     let alloc = rt.alloc();
-    let program = parsed(alloc, OWN_WRITE_READ)?;
+    let program = parsed(&rt, alloc, OWN_WRITE_READ);
     let settings = settings(alloc, false, 1000);
     for _ in 0..RUNS {
-        let ran = run_once(&rt, alloc, &program, &settings, &NoStall, &Open)?;
+        let ran = run_once(&rt, alloc, &program, &settings, &NoStall, &Open).expect(&rt, "a run");
         same(&rt, register(&ran, 0), Some(7));
         same(&rt, ran.counters().arms, 0);
     }
-    Ok(())
 }
 
 #[test]
-fn locked_increments(rt: HostRuntime) -> Result<(), Fail> {
+fn locked_increments(rt: HostRuntime) {
     let alloc = rt.alloc();
-    let program = parsed(alloc, LOCKED_INCREMENTS)?;
+    let program = parsed(&rt, alloc, LOCKED_INCREMENTS);
     let settings = settings(alloc, false, 1_000_000_000);
     for _ in 0..RUNS {
-        let ran = run_once(&rt, alloc, &program, &settings, &NoStall, &Open)?;
+        let ran = run_once(&rt, alloc, &program, &settings, &NoStall, &Open).expect(&rt, "a run");
         same(&rt, ran.memory().first().copied(), Some(2));
         let counters = ran.counters();
         same(&rt, (counters.arms, counters.quiet), (2, 2));
     }
-    Ok(())
 }
 
 #[test]
-fn full_slots_sixteen(rt: HostRuntime) -> Result<(), Fail> {
+fn full_slots_sixteen(rt: HostRuntime) {
     let alloc = rt.alloc();
-    let text = sixteen(alloc, "")?;
-    let program = parsed(alloc, text.as_str())?;
+    let text = sixteen(&rt, alloc, "");
+    let program = parsed(&rt, alloc, text.as_str());
     let settings = settings(alloc, false, 1_000_000_000);
     for _ in 0..RUNS {
-        let ran = run_once(&rt, alloc, &program, &settings, &NoStall, &Open)?;
+        let ran = run_once(&rt, alloc, &program, &settings, &NoStall, &Open).expect(&rt, "a run");
         let counters = ran.counters();
         same(&rt, counters.arms, counters.quiet);
         same(&rt, counters.arms.saturating_add(counters.capacity), 16);
-        same(&rt, ran.accesses(alloc)?.len(), 16);
+        same(&rt, ran.accesses(alloc).expect(&rt, "memory").len(), 16);
         assert!(rt; ran.reports().is_empty());
     }
-    Ok(())
 }
 
 #[test]
-fn the_smallest_stuck_task_is_named(rt: HostRuntime) -> Result<(), Fail> {
+fn the_smallest_stuck_task_is_named(rt: HostRuntime) {
     let alloc = rt.alloc();
-    let program = parsed(alloc, TWO_STUCK)?;
+    let program = parsed(&rt, alloc, TWO_STUCK);
     let settings = settings(alloc, false, 3);
     for _ in 0..RUNS {
         let refused = run_once(&rt, alloc, &program, &settings, &NoStall, &Open).err();
         same(&rt, refused, Some(RunError::Stuck { task: 1 }));
     }
-    Ok(())
 }
 
 /// A task of this program gets stuck where the lock isn't free at its first try. In these runs it is.
 #[test]
-fn no_task_is_stuck_without_a_failed_try(rt: HostRuntime) -> Result<(), Fail> {
+fn no_task_is_stuck_without_a_failed_try(rt: HostRuntime) {
     let alloc = rt.alloc();
-    let program = parsed(alloc, LOCKED)?;
+    let program = parsed(&rt, alloc, LOCKED);
     let settings = settings(alloc, false, 1);
     for _ in 0..RUNS {
         let behind = Behind {
             over: AtomicU64::new(0),
             ran_out: AtomicU64::new(0),
         };
-        let ran = run_once(&rt, alloc, &program, &settings, &behind, &behind)?;
+        let ran = run_once(&rt, alloc, &program, &settings, &behind, &behind).expect(&rt, "a run");
         same(&rt, ran.tasks(), 2);
         same(&rt, behind.ran_out.load(Ordering::SeqCst), 0);
     }
-    Ok(())
 }
 
 #[test]
-fn each_arming_stalls_once(rt: HostRuntime) -> Result<(), Fail> {
+fn each_arming_stalls_once(rt: HostRuntime) {
     let alloc = rt.alloc();
-    let program = parsed(alloc, LOCKED_INCREMENTS)?;
+    let program = parsed(&rt, alloc, LOCKED_INCREMENTS);
     let settings = settings(alloc, false, 1_000_000_000);
     let counted = Counted {
         stalls: AtomicU64::new(0),
     };
-    let ran = run_once(&rt, alloc, &program, &settings, &counted, &Open)?;
+    let ran = run_once(&rt, alloc, &program, &settings, &counted, &Open).expect(&rt, "a run");
     same(&rt, ran.counters().arms, 2);
     same(&rt, counted.stalls.load(Ordering::SeqCst), 2);
-    Ok(())
 }
 
 #[test]
-fn a_delay_counts_its_turns(rt: HostRuntime) -> Result<(), Fail> {
+fn a_delay_counts_its_turns(rt: HostRuntime) {
     let delay = Delay::new(64, 2, 1);
     delay.pass(1, HookPoint::End);
     delay.pass(0, HookPoint::Begin);
@@ -363,43 +360,45 @@ fn a_delay_counts_its_turns(rt: HostRuntime) -> Result<(), Fail> {
     let alone = Delay::new(64, 2, 0);
     alone.stall(0, 0);
     same(&rt, alone.turns(), 64);
-    Ok(())
 }
 
 #[test]
-fn any_task_may_start_first(rt: HostRuntime) -> Result<(), Fail> {
+fn any_task_may_start_first(rt: HostRuntime) {
     let alloc = rt.alloc();
     let text = sixteen(
+        &rt,
         alloc,
         "r0 = READ_ONCE(*x); WRITE_ONCE(*x, 7); r0 = READ_ONCE(*x);",
-    )?;
-    let program = parsed(alloc, text.as_str())?;
+    );
+    let program = parsed(&rt, alloc, text.as_str());
     let settings = settings(alloc, false, 1_000_000_000);
-    let prepared = Prepared::new(alloc, &program, &settings)?;
+    let prepared = Prepared::new(alloc, &program, &settings).expect(&rt, "a program that can run");
     for first in 0..18 {
         let turn = RunIndex { number: 5, first };
         let ran = run_prepared(
             &rt, alloc, &program, &settings, &prepared, turn, &NoStall, &Open,
-        )?;
+        )
+        .expect(&rt, "a run");
         for task in 0..16 {
             same(&rt, register(&ran, task), Some(7));
         }
-        same(&rt, ran.accesses(alloc)?.len(), 48);
+        same(&rt, ran.accesses(alloc).expect(&rt, "memory").len(), 48);
         same(&rt, ran.number(), 5);
     }
-    Ok(())
 }
 
-/// The race, so often run.
-fn raced<R: Threads + Wait + Sync>(
+/// The program of a text, so often run.
+pub(crate) fn ran_often<R: Threads + Wait + Sync + Abort>(
     rt: &R,
     alloc: Global,
+    text: &str,
+    turns: u64,
     times: Times,
-) -> Result<Written, EngineError>
+) -> Written
     requires { 1 ≤ times.jobs }
 {
-    let settings = settings(alloc, false, 1_000_000);
-    run_text_often(rt, alloc, RACE.as_bytes(), &settings, times, true, &Unseen)
+    let settings = settings(alloc, false, turns);
+    run_text_often(rt, alloc, text.as_bytes(), &settings, times, true, &Unseen).expect(rt, "runs")
 }
 
 /// Whether a text has another one in it.
@@ -411,39 +410,31 @@ pub(crate) fn has(text: &[u8], part: &str) -> bool {
 }
 
 #[test]
-fn the_race_is_found(rt: HostRuntime) -> Result<(), Fail> {
-    let found = raced(&rt, rt.alloc(), THOUSAND)?;
+fn the_race_is_found(rt: HostRuntime) {
+    let found = ran_often(&rt, rt.alloc(), RACE, 1_000_000, THOUSAND);
     assert!(rt; found.raced);
     assert!(rt; has(found.output.as_slice(), " of 1000 runs\n"));
-    let apart = raced(
-        &rt,
-        rt.alloc(),
-        Times {
-            jobs: 4,
-            ..THOUSAND
-        },
-    )?;
+    let times = Times {
+        jobs: 4,
+        ..THOUSAND
+    };
+    let apart = ran_often(&rt, rt.alloc(), RACE, 1_000_000, times);
     assert!(rt; apart.raced);
     assert!(rt; has(apart.output.as_slice(), " of 1000 runs\n"));
-    Ok(())
 }
 
 #[test]
-fn the_first_race_is_the_last_run(rt: HostRuntime) -> Result<(), Fail> {
+fn the_first_race_is_the_last_run(rt: HostRuntime) {
     for jobs in [1, 3] {
-        let found = raced(
-            &rt,
-            rt.alloc(),
-            Times {
-                jobs,
-                stop_at_first: true,
-                ..THOUSAND
-            },
-        )?;
+        let times = Times {
+            jobs,
+            stop_at_first: true,
+            ..THOUSAND
+        };
+        let found = ran_often(&rt, rt.alloc(), RACE, 1_000_000, times);
         assert!(rt; found.raced);
         assert!(rt; has(found.output.as_slice(), " two-sided 1 "));
         let trace = found.trace.unwrap_or(Vec::new(rt.alloc()));
         assert!(rt; has(trace.as_slice(), "\nrace "));
     }
-    Ok(())
 }

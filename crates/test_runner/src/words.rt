@@ -9,7 +9,7 @@ use crate::same::{same, same_at};
 use shared_table::{Gathered, SharedBoard, SharedTable, TaskSeat};
 use slot_table::discipline::allows;
 use slot_table::{Answer, Board, BoardError, Record, Shape, Step};
-use std::alloc::{AllocError, Global};
+use std::alloc::Global;
 use std::process::Abort;
 use std::sync::atomic::{AtomicU64, Ordering};
 use std::test::Fail;
@@ -381,18 +381,19 @@ fn all_played<R: Abort + Threads + Sync>(
     seats: Vec<TaskSeat>,
     game: Game,
     gate: &Gate,
-) -> Result<Vec<TaskSeat>, AllocError>
+) -> Vec<TaskSeat>
     requires { All (λ seat. (seat.table ≡ table.now) × (seat.records ≡ [])) seats.items }
-    ensures { IfOk result (λ seats. All (λ seat. seat.table ≡ table.now) seats.items) }
+    ensures { All (λ seat. seat.table ≡ table.now) result.items }
 {
-    thread::map_vec(
+    let seats = thread::map_vec(
         rt,
         seats,
         &|seat: TaskSeat| -> TaskSeat
             requires { (seat.table ≡ table.now) × (seat.records ≡ []) × IsSync R.row }
             ensures { result.table ≡ table.entry.now }
         { played(rt, alloc, table, seat, game, gate) },
-    )
+    );
+    seats.expect(rt, "memory")
 }
 
 /// A table of this many tasks, with 64 page slots and a lock, and a seat for each task.
@@ -420,10 +421,10 @@ pub(crate) fn opened(
 /// Each of 4,000 checks at one index takes a watchpoint or comes too late for it, or it sets one up or meets another
 /// there. Each that is set up is taken or not.
 #[test]
-fn four_seats(rt: HostRuntime) -> Result<(), Fail> {
+fn four_seats(rt: HostRuntime) {
     let gate = Gate::new();
-    let (table, seats) = opened(rt.alloc(), 4, &[7, 8])?;
-    let seats = all_played(&rt, rt.alloc(), &table, seats, Game::Checks, &gate)?;
+    let (table, seats) = opened(rt.alloc(), 4, &[7, 8]).expect(&rt, "a table");
+    let seats = all_played(&rt, rt.alloc(), &table, seats, Game::Checks, &gate);
     let gathered = table.gather(seats).expect(&rt, "no check is unfinished");
     same(&rt, gathered.cells(), [7, 8].as_slice());
     let [armed, full, quiet, heard, told, lost] = gate.checks();
@@ -433,23 +434,21 @@ fn four_seats(rt: HostRuntime) -> Result<(), Fail> {
     let inserts = armed.saturating_add(full);
     let tries = told.saturating_add(lost);
     same(&rt, inserts.saturating_add(tries), 4000);
-    Ok(())
 }
 
 #[test]
-fn one_goes_on_while_another_is_paused(rt: HostRuntime) -> Result<(), Fail> {
-    let (table, seats) = opened(rt.alloc(), 2, &[])?;
+fn one_goes_on_while_another_is_paused(rt: HostRuntime) {
+    let (table, seats) = opened(rt.alloc(), 2, &[]).expect(&rt, "a table");
     let gate = Gate::new();
-    let seats = all_played(&rt, rt.alloc(), &table, seats, Game::Paused, &gate)?;
+    let seats = all_played(&rt, rt.alloc(), &table, seats, Game::Paused, &gate);
     assert!(rt; table.gather(seats).is_some(), "a check is unfinished");
     same(&rt, gate.told.load(Ordering::SeqCst), 1);
     same(&rt, gate.heard.load(Ordering::SeqCst), 1);
-    Ok(())
 }
 
 #[test]
-fn a_lock_a_cell_and_stamps_under_four(rt: HostRuntime) -> Result<(), Fail> {
-    let (table, seats) = opened(rt.alloc(), 4, &[0; 401])?;
+fn a_lock_a_cell_and_stamps_under_four(rt: HostRuntime) {
+    let (table, seats) = opened(rt.alloc(), 4, &[0; 401]).expect(&rt, "a table");
     let seats = all_played(
         &rt,
         rt.alloc(),
@@ -457,14 +456,13 @@ fn a_lock_a_cell_and_stamps_under_four(rt: HostRuntime) -> Result<(), Fail> {
         seats,
         Game::Increments,
         &Gate::new(),
-    )?;
+    );
     let gathered = table.gather(seats).expect(&rt, "no check is unfinished");
     same(&rt, gathered.cells().first().copied(), Some(400));
     assert!(rt;
         gathered.cells().iter().skip(1).all(|mark| *mark == 1),
         "a stamp wasn't drawn"
     );
-    Ok(())
 }
 
 #[test]
@@ -479,13 +477,12 @@ fn gather_wants_each_seat(rt: HostRuntime) -> Result<(), Fail> {
 }
 
 #[test]
-fn gather_wants_finished_checks(rt: HostRuntime) -> Result<(), Fail> {
+fn gather_wants_finished_checks(rt: HostRuntime) {
     for game in [Game::StopsBeforeRemove, Game::StopsBeforeTell] {
-        let (table, seats) = opened(rt.alloc(), 2, &[])?;
-        let seats = all_played(&rt, rt.alloc(), &table, seats, game, &Gate::new())?;
+        let (table, seats) = opened(rt.alloc(), 2, &[]).expect(&rt, "a table");
+        let seats = all_played(&rt, rt.alloc(), &table, seats, game, &Gate::new());
         assert!(rt; table.gather(seats).is_none());
     }
-    Ok(())
 }
 
 #[test]
