@@ -1,6 +1,6 @@
 //! Reads rows from standard input and prints those of which something else comes: histories, with what the definitions
-//! say of them; executions, with the verdict on a pair of sites; plays of some checkers over one board, move by move; and
-//! records, with what they are of a check.
+//! say of them; executions, with the verdict on a pair of sites; plays of some checkers over one board, move by move;
+//! records, with what they are of a check; and litmus texts, with their bounded executions.
 #![tactic(auto)]
 
 mod accesses;
@@ -9,6 +9,7 @@ mod definitions;
 mod histories;
 mod moves;
 mod play;
+mod searched;
 mod setting;
 mod steps;
 mod verdicts;
@@ -18,22 +19,31 @@ use histories::history_of;
 use play::Play;
 use std::alloc::{AllocError, Global};
 use std::process::ExitCode;
+use test_rows::texts::Texts;
 use test_rows::{Rows, Tried, status_of_rows};
 use words::Fault;
 
 fn main(rt: HostRuntime) -> ExitCode {
-    status_of_rows(&rt, &mut Questions { play: None })
+    let mut questions = Questions {
+        play: None,
+        texts: Texts::new(rt.alloc()),
+    };
+    status_of_rows(&rt, &mut questions)
 }
 
-/// What rows ask, and the play that they go on with.
+/// What rows ask, the play that they go on with, and the texts so far.
 #[derive(Drop)]
 struct Questions {
     play: Option<Play>,
+    texts: Texts,
 }
 
 impl Rows for Questions {
     fn try_line(&mut self, alloc: Global, line: &str) -> Result<Tried, AllocError> {
-        match otherwise(alloc, &mut self.play, line) {
+        if self.texts.takes(line)? {
+            return Ok(Tried::Kept);
+        }
+        match otherwise(alloc, &mut self.play, &self.texts, line) {
             Ok(None) => Ok(Tried::AsSaid),
             Ok(Some(comes)) => Tried::other(alloc, line, &comes),
             Err(Fault::NoRow) => Tried::no_row(alloc, line),
@@ -43,7 +53,12 @@ impl Rows for Questions {
 }
 
 /// What comes of the row of a line, where it isn't what the row says.
-fn otherwise(alloc: Global, play: &mut Option<Play>, line: &str) -> Result<Option<String>, Fault> {
+fn otherwise(
+    alloc: Global,
+    play: &mut Option<Play>,
+    texts: &Texts,
+    line: &str,
+) -> Result<Option<String>, Fault> {
     let (word, rest) = line.split_once(' ').ok_or(Fault::NoRow)?;
     match word {
         "play" => {
@@ -54,22 +69,31 @@ fn otherwise(alloc: Global, play: &mut Option<Play>, line: &str) -> Result<Optio
             Some(play) => play.otherwise(alloc, rest),
             None => Err(Fault::NoRow),
         },
-        _ => {
-            let (asked, said) = rest.split_once(" => ").ok_or(Fault::NoRow)?;
-            let comes = answer(alloc, word, asked)?;
-            Ok(if comes.as_str() == said {
-                None
-            } else {
-                Some(comes)
-            })
-        }
+        _ => other_answer(alloc, texts, word, rest),
     }
 }
 
+/// What comes of a question, where it isn't what the row says.
+fn other_answer(
+    alloc: Global,
+    texts: &Texts,
+    word: &str,
+    rest: &str,
+) -> Result<Option<String>, Fault> {
+    let (asked, said) = rest.split_once(" => ").ok_or(Fault::NoRow)?;
+    let comes = answer(alloc, texts, word, asked)?;
+    Ok(if comes.as_str() == said {
+        None
+    } else {
+        Some(comes)
+    })
+}
+
 /// What comes of a question.
-fn answer(alloc: Global, word: &str, asked: &str) -> Result<String, Fault> {
+fn answer(alloc: Global, texts: &Texts, word: &str, asked: &str) -> Result<String, Fault> {
     let (asked, told) = asked.split_once(" | ").unwrap_or((asked, ""));
     match word {
+        "count" | "lists" => searched::answer(alloc, texts, word, asked),
         "checker" => checks::new_checker(alloc, asked),
         "records" => checks::reading(alloc, asked, told),
         "verdict" => verdicts::answer(alloc, asked, told),

@@ -1,0 +1,127 @@
+//! Bounded executions of litmus texts, by the slow plain program that lists them by their definition:
+//! `count NAME RULES SWITCHES => NUMBER`, or `lists NAME RULES SWITCHES => SCHEDULES`.
+
+use crate::words::{Fault, Words, number_of};
+use litmus_parse::{ParseError, parse};
+use litmus_step::{RunError, Settings};
+use oracle_steps::oracle_searched::searched_schedules;
+use std::alloc::{AllocError, Global};
+use test_rows::texts::Texts;
+use watch_word::Layout;
+
+impl From<ParseError> for Fault {
+    fn from(error: ParseError) -> Fault {
+        match error {
+            ParseError::OutOfMemory => Fault::OutOfMemory,
+            _ => Fault::NoRow,
+        }
+    }
+}
+
+impl From<RunError> for Fault {
+    fn from(error: RunError) -> Fault {
+        match error {
+            RunError::OutOfMemory => Fault::OutOfMemory,
+            _ => Fault::NoRow,
+        }
+    }
+}
+
+/// What comes of the words `NAME RULES SWITCHES`: how many bounded executions the text has, or which.
+pub fn answer(alloc: Global, texts: &Texts, word: &str, asked: &str) -> Result<String, Fault> {
+    let mut words = Words::of(asked);
+    let text = texts.get(words.word()?).ok_or(Fault::NoRow)?;
+    let (strict, turns) = rules_of(words.word()?)?;
+    let most = bound(words.word()?)?;
+    words.end()?;
+    let settings = settings(alloc, strict, turns);
+    let schedules = schedules(alloc, text, &settings, most)?;
+    if word == "count" {
+        return Ok(format!(in alloc; "{}", schedules.len())?);
+    }
+    Ok(in_words(alloc, &schedules)?)
+}
+
+/// How many preemptions there may be: a number, or `all` for any.
+fn bound(word: &str) -> Result<Option<u64>, Fault> {
+    if word == "all" {
+        return Ok(None);
+    }
+    Ok(Some(number_of(word)?))
+}
+
+/// What a word for the rules says, `usual`, `strict` or `turns=N`: whether they are strict, and after how many failed
+/// tries a wait is stuck.
+fn rules_of(word: &str) -> Result<(bool, u64), Fault> {
+    match word {
+        "usual" => Ok((false, 1000)),
+        "strict" => Ok((true, 1000)),
+        _ => Ok((
+            false,
+            number_of(word.strip_prefix("turns=").ok_or(Fault::NoRow)?)?,
+        )),
+    }
+}
+
+/// The settings of these rules.
+fn settings(alloc: Global, strict: bool, turns: u64) -> Settings {
+    Settings {
+        slots: 64,
+        skip: 0,
+        randomize: false,
+        seed: 1,
+        value_change_only: !strict,
+        plain_writes_atomic: !strict,
+        layout: Layout::W64,
+        turns,
+        places: Vec::new(alloc),
+    }
+}
+
+/// The bounded executions of a text.
+fn schedules(
+    alloc: Global,
+    text: &str,
+    settings: &Settings,
+    most: Option<u64>,
+) -> Result<Vec<Vec<usize>>, Fault> {
+    if settings.turns == 0 {
+        return Err(Fault::NoRow);
+    }
+    let program = parse(alloc, text.as_bytes())?;
+    match searched_schedules(alloc, &program, settings, most) {
+        Ok(schedules) => Ok(schedules),
+        Err(error) => Err(Fault::from(error)),
+    }
+}
+
+/// Schedules with a blank between two of them.
+fn in_words(alloc: Global, schedules: &[Vec<usize>]) -> Result<String, AllocError> {
+    let mut words = String::new(alloc);
+    for schedule in schedules {
+        if !words.is_empty() {
+            words.push(' ')?;
+        }
+        add_schedule(&mut words, schedule)?;
+    }
+    Ok(words)
+}
+
+/// Adds a schedule: which task makes how many steps, adjacent ones of one task joined.
+fn add_schedule(words: &mut String, schedule: &[usize]) -> Result<(), AllocError> {
+    let mut made: Option<(usize, u64)> = None;
+    for task in schedule {
+        match made {
+            Some((last, steps)) if last == *task => made = Some((last, steps.saturating_add(1))),
+            Some((last, steps)) => {
+                write!(words, "{last}x{steps},")?;
+                made = Some((*task, 1));
+            }
+            None => made = Some((*task, 1)),
+        }
+    }
+    if let Some((last, steps)) = made {
+        write!(words, "{last}x{steps}")?;
+    }
+    Ok(())
+}
