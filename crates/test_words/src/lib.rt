@@ -1,5 +1,4 @@
-//! Accesses, watch words, values and boards, and what words of the command line ask for, tried on rows that were worked
-//! out by hand. Nothing stands on this crate.
+//! Accesses, watch words, values and boards, tried on rows that were worked out by hand. Nothing stands on this crate.
 #![tactic(auto)]
 
 #[cfg(test)]
@@ -9,8 +8,6 @@ mod arms;
 #[cfg(test)]
 mod boards;
 #[cfg(test)]
-mod checks;
-#[cfg(test)]
 mod indices;
 #[cfg(test)]
 mod kinds;
@@ -19,11 +16,7 @@ mod lists;
 #[cfg(test)]
 mod pairs;
 #[cfg(test)]
-mod race_words;
-#[cfg(test)]
 mod same;
-#[cfg(test)]
-mod search_words;
 #[cfg(test)]
 mod sites;
 #[cfg(test)]
@@ -38,5 +31,3 @@ mod tickets;
 mod verdicts;
 #[cfg(test)]
 mod watches;
-#[cfg(test)]
-mod words;

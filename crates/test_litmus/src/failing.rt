@@ -2,8 +2,8 @@
 
 ghost use Rattle.std.specs.Prelude.{◌≡◌, Some};
 
-use crate::row::number;
 use crate::trace::Trace;
+use crate::trace_row::number;
 use report_text::{Sink, SinkFault};
 use std::alloc::{AllocError, Global};
 use test_rows::texts::Texts;

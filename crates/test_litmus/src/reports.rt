@@ -1,7 +1,7 @@
 //! Reports of the accesses of a trace, and how they are written.
 
-use crate::row::number;
 use crate::trace::Trace;
+use crate::trace_row::number;
 use access_types::{Report, Sites, ValueChange, ticket};
 use report_text::{Groups, MemorySink, write_report};
 use std::alloc::{AllocError, Global};

@@ -1,6 +1,6 @@
 //! Traces that are replayed.
 
-use crate::row::quoted;
+use crate::trace_row::quoted;
 use std::alloc::{AllocError, Global};
 use test_rows::escapes::unescaped;
 use test_rows::texts::Texts;

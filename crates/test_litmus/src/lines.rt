@@ -1,7 +1,7 @@
 //! Heads and lines.
 
-use crate::row::quoted;
 use crate::trace::Trace;
+use crate::trace_row::quoted;
 use report_text::Line;
 use std::alloc::{AllocError, Global};
 use test_rows::escapes::unescaped;
