@@ -60,6 +60,33 @@ fn search_verdict(raced: bool, stopped: bool) -> FileVerdict
     }
 }
 
+/// Who is told how far the search of one file has come. Its seconds count from when that search began: from the next
+/// whole second, since no other is told, so that no search is stopped early.
+#[derive(Drop)]
+struct FileProgress<'a, P> {
+    progress: &'a P,
+    /// So many seconds have gone by at that next one.
+    begun: u64,
+}
+
+impl<P: SearchProgress> SearchProgress for FileProgress<'_, P> {
+    fn nodes(&self, nodes: u64) {
+        self.progress.nodes(nodes);
+    }
+
+    fn visited(&self, states: u64, left: u64) {
+        self.progress.visited(states, left);
+    }
+
+    fn search_over(&self) {
+        self.progress.search_over();
+    }
+
+    fn seconds(&self) -> u64 {
+        self.progress.seconds().saturating_sub(self.begun)
+    }
+}
+
 /// Looks into the text that a file of this name gave.
 pub(crate) fn find<P: SearchProgress>(
     alloc: Global,
@@ -73,6 +100,10 @@ pub(crate) fn find<P: SearchProgress>(
     ensures found { IfOk result (λ found. IsFoundIn work settings.now name.now text.now found.output.items found.verdict) }
     ensures refused { IfErr result (IsRefused text.now settings.now) }
 {
+    let progress = FileProgress {
+        progress,
+        begun: progress.seconds().saturating_add(1),
+    };
     match work {
         Work::Races(work) => {
             let races = file_races(
@@ -82,7 +113,7 @@ pub(crate) fn find<P: SearchProgress>(
                 settings,
                 work.wanted,
                 work.format,
-                progress,
+                &progress,
             )?;
             Ok(TextFound {
                 output: races.output,
@@ -90,7 +121,7 @@ pub(crate) fn find<P: SearchProgress>(
             })
         }
         Work::Search(wanted) => {
-            let found = search_file(alloc, name, text, settings, wanted, progress)?;
+            let found = search_file(alloc, name, text, settings, wanted, &progress)?;
             Ok(TextFound {
                 verdict: search_verdict(found.raced, found.stopped),
                 output: found.output,
