@@ -12,6 +12,16 @@ _kcsan_litmus_files() {
   )
 }
 
+# The same of a list: @ stays before it.
+_kcsan_litmus_list() {
+  local file
+  compopt -o nospace 2>/dev/null
+  while IFS= read -r file; do
+    if [[ -d $file ]]; then file+=/; else file+=" "; fi
+    COMPREPLY+=("@$file")
+  done < <(compgen -f -- "$cur")
+}
+
 _kcsan_litmus() {
   local cur=${COMP_WORDS[COMP_CWORD]} before=${COMP_WORDS[COMP_CWORD - 1]} command=${COMP_WORDS[1]}
   local commands="step run search races replay show check help" formats="text json" options=
@@ -45,7 +55,8 @@ _kcsan_litmus() {
     --switches) _kcsan_litmus_words all ;;
     --value-change-only | --plain-writes-atomic) _kcsan_litmus_words "yes no" ;;
     --kconfig) _kcsan_litmus_files '*.config' '*config-*' ;;
-    --trace | --svg | -o | @) _kcsan_litmus_files '*' ;;
+    --trace | --svg | -o) _kcsan_litmus_files '*' ;;
+    @) _kcsan_litmus_list ;;
     --schedule | -s | --place | --slots | --skip | --seed | --turns) ;;
     --runs | -r | --delay | --jobs | --limit | --seconds) ;;
     *)

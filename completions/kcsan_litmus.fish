@@ -42,7 +42,7 @@ complete -c kcsan_litmus -n "$litmus" -l word -xa '64 32' -d 'Bits of a watch wo
 complete -c kcsan_litmus -n "$executing" -l skip -x -d 'Accesses skipped between two that are watched'
 complete -c kcsan_litmus -n "$executing" -l randomize -d 'Draw each skip at random'
 complete -c kcsan_litmus -n "$executing" -l seed -x -d 'Seed of the skips'
-complete -c kcsan_litmus -n "$executing" -l strict -d 'Both of the next two are no'
+complete -c kcsan_litmus -n "$executing" -l strict -d 'No for both of the settings yes|no'
 complete -c kcsan_litmus -n "$executing" -l value-change-only -xa 'yes no' -d 'Report changed values alone'
 complete -c kcsan_litmus -n "$executing" -l plain-writes-atomic -xa 'yes no' -d 'Plain writes count as marked'
 complete -c kcsan_litmus -n "$executing" -l kconfig -xka '(__fish_complete_suffix .config)' -d 'Settings of a kernel'
