@@ -22,7 +22,7 @@ fn main(rt: HostRuntime) -> ExitCode {
 }
 
 /// Says why the words can't be had, and answers the status: for want of memory, for bytes that are no text, or for a
-/// list that can't be read.
+/// list or a configuration that can't be read.
 fn refuse(rt: &HostRuntime, fault: &WordsFault) -> u8 {
     match fault {
         WordsFault::OutOfMemory => {
@@ -35,6 +35,10 @@ fn refuse(rt: &HostRuntime, fault: &WordsFault) -> u8 {
         }
         WordsFault::NoList(list) => {
             let _ = eprintln!(rt; "kcsan_litmus: cannot read\n{list}: no list of files");
+            UNREADABLE
+        }
+        WordsFault::NoConfig(file) => {
+            let _ = eprintln!(rt; "kcsan_litmus: cannot read\n{file}: no configuration of a kernel");
             UNREADABLE
         }
     }
