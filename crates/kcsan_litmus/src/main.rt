@@ -4,6 +4,7 @@
 
 mod locale;
 mod system;
+mod unread;
 mod whole_file;
 mod words;
 

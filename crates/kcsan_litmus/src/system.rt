@@ -4,23 +4,42 @@ ghost use Rattle.std.specs.Prelude.{◌≡◌, None};
 ghost use Rattle.report_text.specs.Sink.{CountsFailure};
 
 use crate::locale;
+use crate::unread::{is_of_reading, reason_line, refusal_lines};
 use crate::whole_file::write_whole;
 use crate::words::input_path;
+use diagnostics::check_output::Lines;
 use file_commands::complaint::Complaint;
 use file_commands::desk::{Desk, ReadFault};
 use file_commands::{Progress, SearchProgress};
 use litmus_lex::{ReadError, Source, SourceFault, read_all};
+use litmus_parse::FILE_BYTES;
 use report_text::{Sink, SinkFault, WriteError, write_all};
 use std::alloc::Global;
+use std::collections::VecDeque;
 use std::fs::File;
 use std::io::{IsTerminal, Read};
 use std::time::Instant;
+use std::{fs, io};
 
 /// An open file, which can't say what it will give.
 #[derive(Drop)]
 struct OpenFile {
     file: File,
     failures: u64,
+    /// Why its last read failed, if one did.
+    error: Option<io::Error>,
+}
+
+impl OpenFile {
+    /// The file that stands at a path.
+    fn open(rt: &HostRuntime, path: &str) -> io::Result<OpenFile> {
+        let file = File::open(rt, path)?;
+        Ok(OpenFile {
+            file,
+            failures: 0,
+            error: None,
+        })
+    }
 }
 
 impl Source for OpenFile {
@@ -31,12 +50,24 @@ impl Source for OpenFile {
     fn read(&mut self, buffer: &mut [u8]) -> Result<usize, SourceFault> {
         match self.file.read(buffer) {
             Ok(count) => Ok(count),
-            Err(_) => {
+            Err(error) => {
                 self.failures = self.failures.saturating_add(1);
+                self.error = Some(error);
                 Err(SourceFault)
             }
         }
     }
+}
+
+/// What the file of a name gives when it is read once more: one byte beyond the limit of a litmus file at most. Nothing
+/// where it isn't a plain file, since a pipe has given its bytes.
+fn read_again(rt: &HostRuntime, name: &str) -> Option<Vec<u8>> {
+    let path = input_path(name);
+    if !fs::metadata(rt, path).ok()?.is_file() {
+        return None;
+    }
+    let mut file = OpenFile::open(rt, path).ok()?;
+    read_all(rt.alloc(), &mut file, FILE_BYTES).ok()
 }
 
 /// The process's standard output. What it took is not kept.
@@ -76,6 +107,9 @@ pub struct System {
     output: Output,
     /// How often the read of a file has failed.
     faults: u64,
+    /// Why files can't be read of which nothing was told so far, in the order in which they were read. None are kept
+    /// where standard error is no terminal.
+    reasons: VecDeque<Lines>,
     /// When it was made, if the clock could be read.
     start: Option<Instant>,
 }
@@ -84,9 +118,11 @@ impl System {
     /// The desk of a process that has written nothing.
     pub fn new(rt: HostRuntime) -> System {
         let start = Instant::now(&rt).ok();
+        let reasons = VecDeque::new(rt.alloc());
         System {
             output: Output { rt, failures: 0 },
             faults: 0,
+            reasons,
             start,
         }
     }
@@ -102,12 +138,40 @@ impl System {
         }
     }
 
-    /// Counts the read of a file that failed, short of 2^64.
-    fn fault(&mut self) -> ReadFault
+    /// Keeps the reason why the file of this name can't be read, if there is one, and memory for it.
+    fn keep_reason(&mut self, name: &str, error: Option<io::Error>)
+        ensures output { self.new.output ≡ self.old.output }
+        ensures faults { self.new.faults ≡ self.old.faults }
+    {
+        let rt = &self.output.rt;
+        let Some(error) = error else {
+            return;
+        };
+        if !rt.stderr().is_terminal() {
+            return;
+        }
+        if let Ok(line) = reason_line(rt.alloc(), name, &error) {
+            let _ = self.reasons.push_back(line);
+        }
+    }
+
+    /// Tells the reason that was kept first of those that are there, if any is.
+    fn tell_reason(&mut self)
+        ensures output { self.new.output ≡ self.old.output }
+        ensures faults { self.new.faults ≡ self.old.faults }
+    {
+        if let Some(line) = self.reasons.pop_front() {
+            let _ = self.output.rt.eprint(line);
+        }
+    }
+
+    /// Counts the read of the file of this name that failed, short of 2^64, and keeps the reason.
+    fn fault(&mut self, name: &str, error: Option<io::Error>) -> ReadFault
         ensures fault { result ≡ ReadFault.CannotRead }
         ensures counts { CountsFailure self.old.faults self.new.faults }
         ensures output { self.new.output ≡ self.old.output }
     {
+        self.keep_reason(name, error);
         self.faults = self.faults.saturating_add(1);
         ReadFault::CannotRead
     }
@@ -188,13 +252,14 @@ impl Desk for System {
     }
 
     fn read_file(&mut self, alloc: Global, path: &str, limit: usize) -> Result<Vec<u8>, ReadFault> {
-        let Ok(file) = File::open(&self.output.rt, input_path(path)) else {
-            return Err(self.fault());
+        let mut file = match OpenFile::open(&self.output.rt, input_path(path)) {
+            Ok(file) => file,
+            Err(error) => return Err(self.fault(path, Some(error))),
         };
-        match read_all(alloc, &mut OpenFile { file, failures: 0 }, limit) {
+        match read_all(alloc, &mut file, limit) {
             Ok(bytes) => Ok(bytes),
             Err(ReadError::OutOfMemory) => Err(ReadFault::OutOfMemory),
-            Err(ReadError::SourceFailed) => Err(self.fault()),
+            Err(ReadError::SourceFailed) => Err(self.fault(path, file.error)),
         }
     }
 
@@ -216,13 +281,22 @@ impl Desk for System {
         }
     }
 
-    /// Says so where standard error is a terminal.
+    /// Where standard error is a terminal, says what `check` would, if the file can be read again.
     fn advise_check(&self, file: &str) {
         let rt = &self.output.rt;
-        if rt.stderr().is_terminal() {
-            let _ = rt.eprint(format_args!(
-                "kcsan_litmus: 'kcsan_litmus check {file}' says more\n"
-            ));
+        if !rt.stderr().is_terminal() {
+            return;
+        }
+        let text = read_again(rt, file);
+        match text.and_then(|text| refusal_lines(rt.alloc(), file, &text)) {
+            Some(lines) => {
+                let _ = rt.eprint(lines);
+            }
+            None => {
+                let _ = rt.eprint(format_args!(
+                    "kcsan_litmus: 'kcsan_litmus check {file}' says more\n"
+                ));
+            }
         }
     }
 
@@ -230,7 +304,12 @@ impl Desk for System {
         locale::shows_utf8(&self.output.rt)
     }
 
+    /// Where standard error is a terminal, the reason why a file can't be read comes behind that.
     fn complain(&mut self, complaint: Complaint) {
+        let has_reason = is_of_reading(&complaint);
         let _ = self.output.rt.eprint(complaint);
+        if has_reason {
+            self.tell_reason();
+        }
     }
 }
