@@ -8,6 +8,7 @@ ghost use Rattle.file_commands.specs.declared.desk.ReadFault.TheVariants.{Cannot
 ghost use Rattle.report_text.specs.Sink.{CountsFailure, Writes};
 
 use crate::complaint::Complaint;
+use diagnostics::check_output::Lines;
 use report_text::WriteError;
 use run_stats::Progress;
 use search_output::SearchProgress;
@@ -64,6 +65,9 @@ pub trait Desk: Progress + SearchProgress {
     /// Is told that a litmus file of this name is refused, of which `check` says more. What it says of that is no
     /// complaint.
     fn advise_check(&self, file: &str);
+
+    /// Is told which item of a schedule or a place list is malformed, by a line. What it says of that is no complaint.
+    fn advise_item(&self, line: &Lines);
 
     /// Whether signs beyond ASCII can be shown where standard output goes.
     fn shows_utf8(&self) -> bool;

@@ -5,7 +5,7 @@ ghost use Rattle.file_commands.specs.Failures.{read_failure};
 ghost use Rattle.file_commands.specs.Statuses.{engine_status_of, picture_status_of, run_status_of, status_of, text_status_of, trace_status_of};
 ghost use Rattle.file_commands.specs.declared.failure.Failure.TheVariants.{Engine, OutOfMemory, Picture, Trace};
 
-use crate::desk::{Desk, ReadFault};
+use crate::desk::ReadFault;
 use litmus_parse::ParseError;
 use litmus_step::RunError;
 use run_output::EngineError;
@@ -24,7 +24,7 @@ pub const REPORTED: u8 = 2;
 pub const USAGE: u8 = 64;
 
 /// A file is refused.
-const REFUSED: u8 = 65;
+pub(crate) const REFUSED: u8 = 65;
 
 /// A file can't be read.
 pub const UNREADABLE: u8 = 66;
@@ -175,14 +175,5 @@ fn picture_status(error: PictureError) -> u8
     match error {
         PictureError::Trace(error) => trace_status(error),
         PictureError::TooLong => REFUSED,
-    }
-}
-
-/// Where a litmus file is refused, the desk may say that `check` says more of it.
-pub fn advise_check<D: Desk>(failure: Failure, file: Option<&str>, desk: &D) {
-    if let (Some(file), Failure::Engine(EngineError::Text(error))) = (file, failure) {
-        if text_status(error) == REFUSED {
-            desk.advise_check(file);
-        }
     }
 }

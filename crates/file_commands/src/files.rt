@@ -14,10 +14,11 @@ ghost use Rattle.file_commands.specs.Races as requests;
 ghost use Rattle.file_commands.specs.Races.{RacesEnds, SearchesEnd};
 ghost use Rattle.file_commands.specs.Settings.{AskSettings};
 
+use crate::advice::advise_check;
 use crate::check::{Checked, print_checked, tell, tell_file, unread_complaint};
 use crate::complaint::Complaint;
 use crate::desk::{Desk, ReadFault};
-use crate::failure::{Failure, NO_REPORT, OUT_OF_MEMORY, REPORTED, STOPPED, advise_check};
+use crate::failure::{Failure, NO_REPORT, OUT_OF_MEMORY, REPORTED, STOPPED};
 use crate::settings::settings_for;
 use crate::together::carry_together;
 use crate::work::{
@@ -181,7 +182,7 @@ pub(crate) fn refuse<D: Desk>(
     // There is room for what is printed before anything is told, so that no want of memory is told after it.
     let text = unsearched(alloc, work, name, status, refusal_in(error))?;
     let status = tell(Complaint::Failure(failure), desk);
-    advise_check(failure, Some(name), &*desk);
+    advise_check(failure, name, &*desk);
     Ok(passed_over(text, status))
 }
 

@@ -39,7 +39,9 @@ fn refuse(rt: &HostRuntime, fault: &WordsFault) -> u8 {
             UNREADABLE
         }
         WordsFault::NoConfig(file) => {
-            let _ = eprintln!(rt; "kcsan_litmus: cannot read\n{file}: no configuration of a kernel");
+            let _ = eprintln!(rt;
+                "kcsan_litmus: cannot read\n{file}: no configuration of a kernel"
+            );
             UNREADABLE
         }
     }

@@ -300,6 +300,14 @@ impl Desk for System {
         }
     }
 
+    /// Says so where standard error is a terminal.
+    fn advise_item(&self, line: &Lines) {
+        let rt = &self.output.rt;
+        if rt.stderr().is_terminal() {
+            let _ = rt.eprint(format_args!("{line}"));
+        }
+    }
+
     fn shows_utf8(&self) -> bool {
         locale::shows_utf8(&self.output.rt)
     }

@@ -164,8 +164,7 @@ fn tell_meaningless(rt: &HostRuntime, text: &str, config: &KernelConfig<'_>) {
         }
     }
     if config.unknown_origin == Some(false) {
-        let _ = eprintln!(
-            rt;
+        let _ = eprintln!(rt;
             "kcsan_litmus: reports of unknown origin are printed, \
              though CONFIG_KCSAN_REPORT_RACE_UNKNOWN_ORIGIN is not set"
         );

@@ -29,14 +29,15 @@ use crate::search::search_for;
 use crate::show::drawn;
 use clap::error::ErrorKind;
 use cli::{
-    ReplayRequest, Request, RunRequest, SearchRequest, ShowRequest, StepRequest, asked,
+    ReplayRequest, Request, RunOptions, RunRequest, SearchRequest, ShowRequest, StepRequest, asked,
     version_line,
 };
 use diagnostics::text_check::calls;
+use file_commands::advice::{Given, advise_given};
 use file_commands::check::carry_check;
 use file_commands::complaint::Complaint;
 use file_commands::desk::Desk;
-use file_commands::failure::{Failure, NO_REPORT, REPORTED, STOPPED, USAGE, advise_check};
+use file_commands::failure::{Failure, NO_REPORT, REPORTED, STOPPED, USAGE};
 use file_commands::files::{carry_races, carry_searches};
 use file_commands::settings::settings_for;
 use litmus_parse::FILE_BYTES;
@@ -138,23 +139,26 @@ pub fn carry_out<R: Threads + Wait + Sync, D: Desk + Sync>(
     match request {
         Request::Step(request) => {
             let done = step(alloc, request, desk);
-            finish(done, Some(request.file), desk)
+            let given = given(request.file, request.schedule, &request.options);
+            finish(alloc, done, Some(given), desk)
         }
         Request::Run(request) => {
             let done = run(rt, alloc, request, desk);
-            finish(done, Some(request.file), desk)
+            let given = given(request.file, "", &request.options);
+            finish(alloc, done, Some(given), desk)
         }
         Request::Search(request) => {
             let done = search(alloc, request, desk);
-            finish(done, Some(request.file), desk)
+            let given = given(request.file, "", &request.options);
+            finish(alloc, done, Some(given), desk)
         }
         Request::Replay(request) => {
             let done = replay(alloc, request, desk);
-            finish(done, None, desk)
+            finish(alloc, done, None, desk)
         }
         Request::Show(request) => {
             let done = show(alloc, request, desk);
-            finish(done, None, desk)
+            finish(alloc, done, None, desk)
         }
         // These tell of each file that isn't read, and go on.
         Request::Searches(request) => carry_searches(rt, alloc, request, desk),
@@ -162,14 +166,28 @@ pub fn carry_out<R: Threads + Wait + Sync, D: Desk + Sync>(
         Request::Check(request) => carry_check(alloc, request, desk),
         Request::Calls => {
             let done = list_calls(desk);
-            finish(done, None, desk)
+            finish(alloc, done, None, desk)
         }
     }
 }
 
-/// Ends what was asked, of the litmus file of this name if it is of one: where it failed, standard error is told why.
-/// The status that the program ends with.
-fn finish<D: Desk>(done: Result<u8, Failure>, file: Option<&str>, desk: &mut D) -> u8
+/// What a command of one litmus file was given that can be at fault.
+fn given<'a>(file: &'a str, schedule: &'a str, options: &RunOptions<'a>) -> Given<'a> {
+    Given {
+        file,
+        schedule,
+        places: options.places,
+    }
+}
+
+/// Ends what was asked: where it failed, standard error is told why, and the desk may say more of what was given, if it
+/// was of a litmus file. The status that the program ends with.
+fn finish<D: Desk>(
+    alloc: Global,
+    done: Result<u8, Failure>,
+    given: Option<Given<'_>>,
+    desk: &mut D,
+) -> u8
     ensures { (request : spec.Request) (before : DeskState) → IsNoCheck request
         → CommandEnds request done before (D.state desk.old)
         → IsCarriedOut request result before (D.state desk.new) }
@@ -178,7 +196,7 @@ fn finish<D: Desk>(done: Result<u8, Failure>, file: Option<&str>, desk: &mut D) 
         Ok(status) => status,
         Err(failure) => {
             let status = fail(failure, desk);
-            advise_check(failure, file, &*desk);
+            advise_given(alloc, failure, given, &*desk);
             status
         }
     }

@@ -9,4 +9,9 @@ pub mod replay;
 mod search;
 pub mod show;
 
+pub use diagnostics::check_output::Lines;
+pub use file_commands::complaint::Complaint;
+pub use file_commands::desk::{Desk, ReadFault};
+pub use file_commands::failure::{OUT_OF_MEMORY, UNREADABLE, USAGE};
+pub use file_commands::{Progress, SearchProgress};
 pub use run_output::EngineError;
