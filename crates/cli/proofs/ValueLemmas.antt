@@ -10,7 +10,8 @@ use Rattle.clap.specs.Words.{ReadsOne, Row, Text, first_of, first_value, is_simp
 use Rattle.clap.specs.declared.parser.matches.Found.{Found}
 use Rattle.clap.proofs.WalkLemmas.{first_value-rows, one_text-rows, raw_values-rows}
 use Rattle.cli.specs.Bounds.{KeepsPreemptions}
-use Rattle.cli.specs.Words.{AreFormats, AreSearchFormats, AreSizes, Ask, AskSwitches, IsAskedBy, IsAskedOf, IsFlag, IsNumber, IsNumberIfGiven, program_app, words_of}
+use Rattle.cli.specs.Words.{AreNames, Ask, AskSwitches, IsAskedBy, IsAskedOf, IsFlag, IsNumber, IsNumberIfGiven, program_app, words_of}
+use Rattle.cli.specs.declared.program.Names.{Names}
 use Rattle.cli.specs.declared.request.Request.{Request}
 use Rattle.cli.specs.declared.request.Request.TheVariants as requests
 use Rattle.cli.specs.declared.request.Switches.{Switches}
@@ -194,31 +195,25 @@ asked_replay name values requests.Calls is asks =
     absurd (let long : 5 ≡ 6 = ap (λ (text : Text). length text) (sym asks.0 ∙ is) in omega (arith, long))
 
 -- the words ask for what the command that they call asks for
-pub asked_by : (words : List Text) (sizes : Bor (List (Bor Text))) → AreSizes sizes → (formats : Bor (List (Bor Text))) → AreFormats formats
-    → (search_formats : Bor (List (Bor Text))) → AreSearchFormats search_formats → (called : Option (Text × List Row)) (request : Request)
-    → subcommand_of (program_app sizes formats search_formats) words ≡ called → IsAskedOf called request → Ask words request
-asked_by words sizes are formats formats_are search_formats search_are None request is asked = absurd asked
-asked_by words sizes are formats formats_are search_formats search_are (Some call) request is asked = record {
+pub asked_by : (words : List Text) (names : Names) → AreNames names → (called : Option (Text × List Row)) (request : Request)
+    → subcommand_of (program_app names) words ≡ called → IsAskedOf called request → Ask words request
+asked_by words names are None request is asked = absurd asked
+asked_by words names are (Some call) request is asked = record {
   name = call.0;
   values = call.1;
   call = record {
-    sizes = sizes;
-    sizes_are = are;
-    formats = formats;
-    formats_are = formats_are;
-    search_formats = search_formats;
-    search_formats_are = search_are;
+    names = names;
+    names_are = are;
     called = is;
   };
   asked = asked;
 }
 
-pub program_is_simple : (sizes formats search_formats : Bor (List (Bor Text))) → is_simple (program_app sizes formats search_formats) ≡ true
-program_is_simple sizes formats search_formats = refl
+pub program_is_simple : (names : Names) → is_simple (program_app names) ≡ true
+program_is_simple names = refl
 
-pub program_is_free : (sizes formats search_formats : Bor (List (Bor Text)))
-    → is_simple_and_free (program_app sizes formats search_formats) ≡ true
-program_is_free sizes formats search_formats = refl
+pub program_is_free : (names : Names) → is_simple_and_free (program_app names) ≡ true
+program_is_free names = refl
 
 -- what holds of an error holds of what is answered with it
 pub err_holds : {X E : Type 0} (P : E → Type 0) (result : Result X E) (error : E) → IsErrAnd result (λ found. found ≡ error) → P error

@@ -1,5 +1,5 @@
 -- What words ask for: the commands that the program knows, with their options, and what is read of the words.
-use Rattle.std.specs.Prelude.{◌≡◌, ◌<◌, ◌^◌, ◌⊎◌, ◌∷◌, [], ℕ, Bool, List, Option, None, Some, bytes_eq, codes, map, option_map, true, false, unwrap_or}
+use Rattle.std.specs.Prelude.{◌≡◌, ◌<◌, ◌^◌, ◌⊎◌, ◌∷◌, ◌↔◌, [], ℕ, Bool, IsTrue, List, Option, None, Some, bytes_eq, codes, map, not, option_map, true, false, unwrap_or}
 use Rattle.std.specs.Prelude.{if◌then◌else◌}
 use Rattle.std.specs.Str.Parse.{IsNumeral, digits_value, without_leading_plus}
 use Rattle.std.specs.Borrow.{Bor}
@@ -13,7 +13,9 @@ use Rattle.clap.specs.declared.error.kind.ErrorKind.{ErrorKind}
 use Rattle.clap.specs.declared.error.kind.ErrorKind.TheVariants as kinds
 use Rattle.clap.specs.declared.builder.value_parser.ValueParser.TheVariants as values
 use Rattle.cli.specs.Bounds.{MayBeAsked}
+use Rattle.cli.specs.declared.program.Names.{Names}
 use Rattle.cli.specs.declared.request.CheckRequest.{CheckRequest}
+use Rattle.cli.specs.declared.request.Choices.{Choices}
 use Rattle.cli.specs.declared.request.RacesFormat.{RacesFormat}
 use Rattle.cli.specs.declared.request.RacesFormat.TheVariants as race_formats
 use Rattle.cli.specs.declared.request.RacesRequest.{RacesRequest}
@@ -65,72 +67,80 @@ free_number_rule name low high = record (text_rule name) { parser = Some (values
 abbrev pub flag_rule : Text → Rule
 flag_rule name = record (new_rule name) { long = Some name; action = Some SetTrue }
 
--- an option that takes one of some names
-abbrev pub name_rule : Text → Bor (List (Bor Text)) → (text : Text) → Rule
-name_rule name names text = record (default_rule name text) { parser = Some (values.Names names) }
+-- an option that takes one of some names, if it is given
+abbrev pub free_name_rule : Text → Bor (List (Bor Text)) → Rule
+free_name_rule name names = record (text_rule name) { parser = Some (values.Names names) }
 
--- a command, also with the settings of a run but for the places; its `--word` takes one of these names
-abbrev pub with_settings : App → Bor (List (Bor Text)) → App
-with_settings app sizes =
-    with_rule (with_rule (with_rule (with_rule (with_rule (with_rule (with_rule app
+-- one that has one of them where it isn't given
+abbrev pub name_rule : Text → Bor (List (Bor Text)) → (text : Text) → Rule
+name_rule name names text = record (free_name_rule name names) { defaults = text ∷ [] }
+
+-- an option that goes by a letter too
+abbrev pub lettered : (letter : ℕ) → Rule → Rule
+lettered letter rule = record rule { short = Some letter }
+
+-- a command, also with the settings of a run: the places, what a wait takes, and those of KCSAN
+abbrev pub with_settings : App → Names → App
+with_settings app names =
+    with_rule (with_rule (with_rule (with_rule (with_rule (with_rule (with_rule (with_rule (with_rule (with_rule (with_rule app
+    (default_rule (codes "place") []))
+    (number_rule (codes "turns") 1 1000000000 (codes "1000000")))
     (number_rule (codes "slots") 3 1024 (codes "64")))
     (number_rule (codes "skip") 0 1000000 (codes "0")))
     (flag_rule (codes "randomize")))
     (number_rule (codes "seed") 0 18446744073709551615 (codes "1")))
+    (free_name_rule (codes "value-change-only") names.choices))
+    (free_name_rule (codes "plain-writes-atomic") names.choices))
     (flag_rule (codes "strict")))
-    (name_rule (codes "word") sizes (codes "64")))
-    (number_rule (codes "turns") 1 1000000000 (codes "1000000"))
+    (text_rule (codes "kconfig")))
+    (name_rule (codes "word") names.sizes (codes "64"))
 
--- a command, also with the options that `step`, `run` and `search` all have: the places, the trace and those settings
-abbrev pub with_options : App → Bor (List (Bor Text)) → App
-with_options app sizes =
-    with_settings (with_rule (with_rule app
-    (default_rule (codes "place") []))
-    (text_rule (codes "trace"))) sizes
+-- a command, also with the options that `step`, `run` and `search` all have: those settings and the trace
+abbrev pub with_options : App → Names → App
+with_options app names = with_rule (with_settings app names) (lettered 111 (text_rule (codes "trace")))
 
 -- `step`, with its file, its schedule and those options
-abbrev pub step_app : Bor (List (Bor Text)) → App
-step_app sizes =
+abbrev pub step_app : Names → App
+step_app names =
     with_options (with_rule (with_rule (new_app (codes "step"))
     (word_rule (codes "FILE")))
-    (default_rule (codes "schedule") [])) sizes
+    (lettered 115 (default_rule (codes "schedule") []))) names
 
 -- `run`, with its file, how many runs there are, the delay of a watch, how many runs are made side by side, where they
 -- end, and those options
-abbrev pub run_app : Bor (List (Bor Text)) → App
-run_app sizes =
+abbrev pub run_app : Names → App
+run_app names =
     with_options (with_rule (with_rule (with_rule (with_rule (with_rule (with_rule (new_app (codes "run"))
     (word_rule (codes "FILE")))
-    (number_rule (codes "runs") 1 100000 (codes "100")))
+    (lettered 114 (number_rule (codes "runs") 1 100000 (codes "100"))))
     (number_rule (codes "delay") 0 1000000 (codes "64")))
     (number_rule (codes "jobs") 1 64 (codes "1")))
     (flag_rule (codes "stop-at-first")))
-    (flag_rule (codes "keep-going"))) sizes
+    (flag_rule (codes "keep-going"))) names
 
--- `search`, with its files, how many preemptions a schedule has at most, after how many schedules or states and after
--- how many seconds a search stops, how many threads share the work, how what is found is printed, and those options;
--- its `--format` takes one of these names, and what `--switches` takes is said below
-abbrev pub search_app : (sizes formats : Bor (List (Bor Text))) → App
-search_app sizes formats =
+-- `search`, with its files, how what is found is printed, how many preemptions a schedule has at most, after how many
+-- schedules or states and after how many seconds a search stops, how many threads share the work, and those options;
+-- what `--switches` takes is said below
+abbrev pub search_app : Names → App
+search_app names =
     with_options (with_rule (with_rule (with_rule (with_rule (with_rule (with_rule (new_app (codes "search"))
     (some_words_rule (codes "FILE")))
+    (name_rule (codes "format") names.search_formats (codes "text")))
     (default_rule (codes "switches") (codes "2")))
     (number_rule (codes "limit") 1 1000000000 (codes "1000000")))
     (free_number_rule (codes "seconds") 1 1000000))
-    (number_rule (codes "jobs") 1 64 (codes "1")))
-    (name_rule (codes "format") formats (codes "text"))) sizes
+    (number_rule (codes "jobs") 1 64 (codes "1"))) names
 
--- `races`, with its files, after how many states or schedules and after how many seconds a search stops, how many
--- threads share the files, how races are printed, the places and those settings; its `--format` takes one of these names
-abbrev pub races_app : (sizes formats : Bor (List (Bor Text))) → App
-races_app sizes formats =
-    with_settings (with_rule (with_rule (with_rule (with_rule (with_rule (with_rule (new_app (codes "races"))
+-- `races`, with its files, how races are printed, after how many states or schedules and after how many seconds a
+-- search stops, how many threads share the files, and those settings
+abbrev pub races_app : Names → App
+races_app names =
+    with_settings (with_rule (with_rule (with_rule (with_rule (with_rule (new_app (codes "races"))
     (some_words_rule (codes "FILE")))
+    (name_rule (codes "format") names.formats (codes "text")))
     (number_rule (codes "limit") 1 1000000000 (codes "1000000")))
     (free_number_rule (codes "seconds") 1 1000000))
-    (number_rule (codes "jobs") 1 64 (codes "1")))
-    (name_rule (codes "format") formats (codes "text")))
-    (default_rule (codes "place") [])) sizes
+    (number_rule (codes "jobs") 1 64 (codes "1"))) names
 
 -- `replay`, with its file
 abbrev pub replay_app : App
@@ -140,67 +150,57 @@ replay_app = with_rule (new_app (codes "replay")) (word_rule (codes "TRACE"))
 abbrev pub show_app : App
 show_app = with_rule (with_rule (with_rule (new_app (codes "show"))
     (word_rule (codes "TRACE")))
-    (text_rule (codes "svg")))
+    (lettered 111 (text_rule (codes "svg"))))
     (flag_rule (codes "ascii"))
 
 -- `check`, with its files, whether the printed form is wanted, whether the calls that are read are, and the options by
 -- which accesses have addresses and watch words
-abbrev pub check_app : Bor (List (Bor Text)) → App
-check_app sizes =
+abbrev pub check_app : Names → App
+check_app names =
     with_rule (with_rule (with_rule (with_rule (with_rule (with_rule (with_rule (new_app (codes "check"))
     (words_rule (codes "FILE")))
     (flag_rule (codes "print")))
     (flag_rule (codes "calls")))
-    (default_rule (codes "schedule") []))
+    (lettered 115 (default_rule (codes "schedule") [])))
     (default_rule (codes "place") []))
     (number_rule (codes "slots") 3 1024 (codes "64")))
-    (name_rule (codes "word") sizes (codes "64"))
+    (name_rule (codes "word") names.sizes (codes "64"))
 
 -- the program, which has a version, and one of whose commands has to be named
-abbrev pub program_app : (sizes formats search_formats : Bor (List (Bor Text))) → App
-program_app sizes formats search_formats =
+abbrev pub program_app : Names → App
+program_app names =
     with_subcommand (with_subcommand (with_subcommand (with_subcommand (with_subcommand (with_subcommand (with_subcommand
     (on_top (λ shape. record shape { has_version = true; subcommand_required = true }) (new_app (codes "kcsan_litmus")))
-    (step_app sizes).top) (run_app sizes).top) (search_app sizes search_formats).top) (races_app sizes formats).top) replay_app.top)
-    show_app.top) (check_app sizes).top
+    (step_app names).top) (run_app names).top) (search_app names).top) (races_app names).top) replay_app.top)
+    show_app.top) (check_app names).top
 
 -- an argument goes by a rule, and is of its own command alone
 pub record IsArg (rule : Rule) (arg : Arg) : Type 0 where
   pub rule_is : rule_of arg ≡ rule
   pub own : arg.global ≡ false
 
--- these are the names that `--word` takes
-abbrev pub AreSizes : Bor (List (Bor Text)) → Type 0
-AreSizes sizes = map (λ size. size.now) sizes.now ≡ codes "64" ∷ codes "32" ∷ []
+-- these are the texts of names
+abbrev pub AreTexts : Bor (List (Bor Text)) → (texts : List Text) → Type 0
+AreTexts names texts = map (λ name. name.now) names.now ≡ texts
 
--- these are the names that `--format` of `races` takes
-abbrev pub AreFormats : Bor (List (Bor Text)) → Type 0
-AreFormats formats = map (λ format. format.now) formats.now ≡ codes "text" ∷ codes "json" ∷ []
-
--- these are the names that `--format` of `search` takes
-abbrev pub AreSearchFormats : Bor (List (Bor Text)) → Type 0
-AreSearchFormats formats = map (λ format. format.now) formats.now ≡ codes "text" ∷ codes "json" ∷ codes "csv" ∷ codes "herd" ∷ []
+-- these are the names that options take
+pub record AreNames (names : Names) : Type 0 where
+  pub sizes : AreTexts names.sizes (codes "64" ∷ codes "32" ∷ [])
+  pub formats : AreTexts names.formats (codes "text" ∷ codes "json" ∷ [])
+  pub search_formats : AreTexts names.search_formats (codes "text" ∷ codes "json" ∷ codes "csv" ∷ codes "herd" ∷ [])
+  pub choices : AreTexts names.choices (codes "yes" ∷ codes "no" ∷ [])
 
 -- a command is the whole program
 pub record IsProgram (command : Command) : Type 0 where
-  pub sizes : Bor (List (Bor Text))
-  pub sizes_are : AreSizes sizes
-  pub formats : Bor (List (Bor Text))
-  pub formats_are : AreFormats formats
-  pub search_formats : Bor (List (Bor Text))
-  pub search_formats_are : AreSearchFormats search_formats
-  pub is : app_of command ≡ program_app sizes formats search_formats
+  pub names : Names
+  pub names_are : AreNames names
+  pub is : app_of command ≡ program_app names
 
--- the words call this command, by its name, with these values of its options and words; `--word` takes 64 or
--- 32, `--format` of `races` text or json, and that of `search` text, json, csv or herd
+-- the words call this command, by its name, with these values of its options and words
 pub record IsCall (words : List Text) (name : Text) (values : List Row) : Type 0 where
-  pub sizes : Bor (List (Bor Text))
-  pub sizes_are : AreSizes sizes
-  pub formats : Bor (List (Bor Text))
-  pub formats_are : AreFormats formats
-  pub search_formats : Bor (List (Bor Text))
-  pub search_formats_are : AreSearchFormats search_formats
-  pub called : subcommand_of (program_app sizes formats search_formats) words ≡ Some (name, values)
+  pub names : Names
+  pub names_are : AreNames names
+  pub called : subcommand_of (program_app names) words ≡ Some (name, values)
 
 -- the value of an option is a number of 64 bits, in decimal digits
 pub record IsNumber (values : List Row) (option : Text) (number : ℕ) : Type 0 where
@@ -254,14 +254,36 @@ pub record IsSearchFormat (values : List Row) (option : Text) (format : SearchFo
   pub given : first_of option values ≡ Some name
   pub is : format ≡ search_format_of name
 
--- the values ask for this of what `step`, `run`, `search` and `races` all have
+-- what a setting that is on or off is by the word of its option, if that is given: else it is on, or, with
+-- `--strict`, off
+abbrev pub choice_of : Option Text → (strict : Bool) → Bool
+choice_of None strict = not strict
+choice_of (Some word) strict = bytes_eq word (codes "yes")
+
+-- the values ask for this of two such settings; `--strict` goes with neither option
+pub record AskChoices (values : List Row) (choices : Choices) : Type 0 where
+  pub strict : Bool
+  pub strict_is : IsTrue strict ↔ IsGiven values (codes "strict")
+  pub value_change_only : choices.value_change_only ≡ choice_of (first_of (codes "value-change-only") values) strict
+  pub plain_writes_atomic : choices.plain_writes_atomic ≡ choice_of (first_of (codes "plain-writes-atomic") values) strict
+  pub alone : IsTrue strict → (first_of (codes "value-change-only") values ≡ None) × (first_of (codes "plain-writes-atomic") values ≡ None)
+
+-- the two of a run
+abbrev pub choices_of : RunOptions → Choices
+choices_of options = record {
+  value_change_only = options.value_change_only;
+  plain_writes_atomic = options.plain_writes_atomic;
+}
+
+-- the values ask for this of what `step`, `run`, `search` and `races` all have, and `--kconfig` isn't among them
 pub record AskSettings (values : List Row) (options : RunOptions) : Type 0 where
   pub places : first_of (codes "place") values ≡ Some options.places.now
   pub slots : IsNumber values (codes "slots") options.slots
   pub skip : IsNumber values (codes "skip") options.skip
   pub randomize : IsFlag values (codes "randomize") options.randomize
   pub seed : IsNumber values (codes "seed") options.seed
-  pub strict : IsFlag values (codes "strict") options.strict
+  pub choices : AskChoices values (choices_of options)
+  pub unread : first_of (codes "kconfig") values ≡ None
   pub layout : IsLayout values (codes "word") options.layout
   pub turns : IsNumber values (codes "turns") options.turns
 
@@ -374,13 +396,9 @@ pub record Ask (words : List Text) (request : Request) : Type 0 where
 
 -- the words ask for nothing, and this is said of them
 pub record IsSaidOf (words : List Text) (kind : ErrorKind) : Type 0 where
-  pub sizes : Bor (List (Bor Text))
-  pub sizes_are : AreSizes sizes
-  pub formats : Bor (List (Bor Text))
-  pub formats_are : AreFormats formats
-  pub search_formats : Bor (List (Bor Text))
-  pub search_formats_are : AreSearchFormats search_formats
-  pub said : IsAmong kind (fault_of (program_app sizes formats search_formats) words)
+  pub names : Names
+  pub names_are : AreNames names
+  pub said : IsAmong kind (fault_of (program_app names) words)
 
 -- the words ask for help
 abbrev pub AskForHelp : List Text → Type 0
@@ -393,14 +411,10 @@ AskForVersion words = IsSaidOf words kinds.DisplayVersion
 -- nothing is to be said of the words, and yet no request, with numbers within their bounds, is asked for by the command
 -- that they call
 pub record AskForNothing (words : List Text) : Type 0 where
-  pub sizes : Bor (List (Bor Text))
-  pub sizes_are : AreSizes sizes
-  pub formats : Bor (List (Bor Text))
-  pub formats_are : AreFormats formats
-  pub search_formats : Bor (List (Bor Text))
-  pub search_formats_are : AreSearchFormats search_formats
-  pub sound : fault_of (program_app sizes formats search_formats) words ≡ []
-  pub nothing : (request : Request) → MayBeAsked request → IsAskedOf (subcommand_of (program_app sizes formats search_formats) words) request → ⊥
+  pub names : Names
+  pub names_are : AreNames names
+  pub sound : fault_of (program_app names) words ≡ []
+  pub nothing : (request : Request) → MayBeAsked request → IsAskedOf (subcommand_of (program_app names) words) request → ⊥
 
 -- This may be said in place of a request: that memory ran out, what is to be said of the words, or, where nothing is
 -- and yet they ask for nothing, that a value doesn't do. So it is said of no words that name a command that none is

@@ -2,6 +2,7 @@
 #![tactic(auto)]
 
 pub mod help;
+pub mod program;
 pub mod request;
 pub mod version;
 

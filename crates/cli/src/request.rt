@@ -1,57 +1,18 @@
 //! What the words ask for.
 
-ghost use Rattle.std.specs.Prelude.{◌≡◌, ◌≢◌, ◌↔◌, ◌≤◌, ◌<◌, ◌∷◌, ℕ, IfErr, IfOk, IfSome, IsSome, IsTrue, Option, Some, [], codes, length, map, true};
+ghost use Rattle.std.specs.Prelude.{◌≡◌, ◌≢◌, ◌↔◌, ◌≤◌, ◌<◌, ◌∷◌, ℕ, IfErr, IfOk, IfSome, IsSome, IsTrue, Option, Some, [], codes, false, length, map, true};
 ghost use Rattle.cli.specs.Bounds.{KeepsBounds, KeepsCheckBounds, KeepsPreemptions, KeepsRacesBounds, KeepsRunBounds, KeepsSearchBounds, KeepsSearchesBounds, MayBeAsked};
-ghost use Rattle.cli.specs.Words.{AreFormats, AreSizes, Ask, AskCheck, AskOptions, AskRaces, AskRun, AskSearch, AskSearches, AskSettings, AskShow, AskStep, AskSwitches};
-ghost use Rattle.cli.specs.Words.{IsArg, IsAskedBy, IsAskedOf, IsFormat, IsGiven, IsLayout, IsNumber, IsNumberIfGiven, IsProgram, IsSearchFormat, MayFail, words_of};
-ghost use Rattle.cli.specs.Words.{check_app, default_rule, flag_rule, free_number_rule, name_rule, number_rule, races_app, replay_app, run_app, search_app, show_app, step_app};
-ghost use Rattle.cli.specs.Words.{some_words_rule, text_rule, with_options, with_settings, word_rule, words_rule};
-ghost use Rattle.clap.specs.Words.{App, Rule, app_of, first_of, found_of, kind_of, new_app, rows_of, subcommand_rows_of, with_rule, with_subcommand};
+ghost use Rattle.cli.specs.Words.{Ask, AskCheck, AskChoices, AskOptions, AskRaces, AskRun, AskSearch, AskSearches, AskSettings, AskShow, AskStep, AskSwitches};
+ghost use Rattle.cli.specs.Words.{IsAskedBy, IsAskedOf, IsFormat, IsGiven, IsLayout, IsNumber, IsNumberIfGiven, IsSearchFormat, MayFail, choice_of, words_of};
+ghost use Rattle.clap.specs.Words.{first_of, found_of, kind_of, rows_of, subcommand_rows_of};
+ghost use Rattle.std.specs.Option.{option_map};
 
-use crate::help;
-use crate::version::VERSION;
-use clap::builder::ValueParser;
+use crate::program::{AT_MOST, DELAY, JOBS, LIMIT, RUNS, SECONDS, SKIP, SLOTS, TURNS, program};
+use clap::ArgMatches;
 use clap::error::ErrorKind;
-use clap::{Arg, ArgAction, ArgMatches, Command};
 use std::alloc::{AllocError, Global};
 use std::convert::AsStr;
 use watch_word::Layout;
-
-/// The fewest and the most runs.
-const RUNS: (u64, u64) = (1, 100_000);
-
-/// The fewest and the most loads of a delay.
-const DELAY: (u64, u64) = (0, 1_000_000);
-
-/// The fewest and the most runs side by side, and the fewest and the most threads of a search.
-const JOBS: (u64, u64) = (1, 64);
-
-/// The fewest and the most preemptions, where there are so many at most.
-const AT_MOST: (u64, u64) = (0, 64);
-
-/// The fewest and the most schedules that a search may go through, or states.
-const LIMIT: (u64, u64) = (1, 1_000_000_000);
-
-/// After how many seconds a search stops.
-const SECONDS: (u64, u64) = (1, 1_000_000);
-
-/// The fewest and the most page slots.
-const SLOTS: (u64, u64) = (3, 1024);
-
-/// The fewest and the most accesses skipped between two that are watched.
-const SKIP: (u64, u64) = (0, 1_000_000);
-
-/// The fewest and the most failed tries of a wait.
-const TURNS: (u64, u64) = (1, 1_000_000_000);
-
-/// How many bits a watch word can have.
-static BITS: [&str; 2] = ["64", "32"];
-
-/// How races can be printed.
-static FORMATS: [&str; 2] = ["text", "json"];
-
-/// How what a search finds can be printed.
-static SEARCH_FORMATS: [&str; 4] = ["text", "json", "csv", "herd"];
 
 /// What the program is asked to do.
 #[derive(Debug, Drop, PartialEq, Eq)]
@@ -241,8 +202,10 @@ pub struct RunOptions<'a> {
     pub randomize: bool,
     /// The seed of the generator that skips are drawn from.
     pub seed: u64,
-    /// Whether aligned plain writes can race, and hits are reported where the value is the same.
-    pub strict: bool,
+    /// Whether hits that leave the value as it was give no report, as by CONFIG_KCSAN_REPORT_VALUE_CHANGE_ONLY.
+    pub value_change_only: bool,
+    /// Whether aligned plain writes count as marked, as by CONFIG_KCSAN_ASSUME_PLAIN_WRITES_ATOMIC.
+    pub plain_writes_atomic: bool,
     /// How many bits a watch word has.
     pub layout: Layout,
     /// At so many failed tries of one wait a task is stuck.
@@ -264,30 +227,46 @@ pub fn asked<'a, S: AsStr>(alloc: Global, words: &'a [S]) -> Result<Request<'a>,
     Err(refused(alloc, &matches)?)
 }
 
-/// What is said where a command's own rules let words through, and yet they ask for nothing. Of all commands `search`
-/// and `check` alone do so.
+/// What is said where a command's own rules let words through, and yet they ask for nothing.
 fn refused(alloc: Global, matches: &ArgMatches<'_>) -> Result<clap::Error, AllocError>
     ensures { IfOk result (λ error. kind_of error ≡ ErrorKind.ValueValidation) }
 {
     match matches.subcommand() {
-        Some(("search", values)) => search_refused(alloc, values),
-        _ => {
+        Some(("check", _)) => {
             let files_or_calls = "'check' takes one FILE or more, or --calls and no FILE";
             program(alloc)?.error(ErrorKind::ValueValidation, files_or_calls)
         }
+        Some(("search", values)) => search_refused(alloc, values),
+        Some((_, values)) => settings_refused(alloc, values),
+        None => program(alloc)?.error(ErrorKind::ValueValidation, "no command"),
     }
 }
 
 /// What is said of the values of `search` where they ask for nothing: of that of `--switches`, if it asks for nothing,
-/// or else of `--trace`, the only other one that can be at fault.
+/// or else of the settings, if these do, or else of `--trace`, the only other one that can be at fault.
 fn search_refused(alloc: Global, search: &ArgMatches<'_>) -> Result<clap::Error, AllocError>
     ensures { IfOk result (λ error. kind_of error ≡ ErrorKind.ValueValidation) }
 {
     if switches_asked(search).is_none() {
         return switches_refused(alloc, search);
     }
+    if settings(search, None).is_none() {
+        return settings_refused(alloc, search);
+    }
     let one_as_text = "'--trace' goes with one FILE and '--format text'";
     program(alloc)?.error(ErrorKind::ValueValidation, one_as_text)
+}
+
+/// What is said of settings that ask for nothing.
+fn settings_refused(alloc: Global, values: &ArgMatches<'_>) -> Result<clap::Error, AllocError>
+    ensures { IfOk result (λ error. kind_of error ≡ ErrorKind.ValueValidation) }
+{
+    let why = if values.get_str("kconfig").is_some() {
+        "'--kconfig' has to be replaced by the options that it stands for"
+    } else {
+        "'--strict' cannot be used with '--value-change-only' or '--plain-writes-atomic'"
+    };
+    program(alloc)?.error(ErrorKind::ValueValidation, why)
 }
 
 /// What is said of a value of `--switches` that asks for nothing.
@@ -577,7 +556,8 @@ fn options<'a>(matches: &ArgMatches<'a>) -> Option<RunOptions<'a>>
     settings(matches, matches.get_str("trace"))
 }
 
-/// The options that these and `races` all have, by their values, and this trace.
+/// The options that these and `races` all have, by their values, and this trace. A `--kconfig` that is left asks for
+/// nothing: whoever reads the words replaces it by the options that it stands for.
 fn settings<'a>(matches: &ArgMatches<'a>, trace: Option<&'a str>) -> Option<RunOptions<'a>>
     ensures bounds { IfSome result KeepsBounds }
     ensures asked { IfSome result (AskSettings (rows_of (found_of matches.now))) }
@@ -585,6 +565,10 @@ fn settings<'a>(matches: &ArgMatches<'a>, trace: Option<&'a str>) -> Option<RunO
     ensures complete { (options : RunOptions) → KeepsBounds options → AskSettings (rows_of (found_of matches.now)) options
         → IsSome result }
 {
+    if matches.get_str("kconfig").is_some() {
+        return None;
+    }
+    let choices = choices_asked(matches)?;
     Some(RunOptions {
         places: matches.get_str("place")?,
         trace,
@@ -592,10 +576,62 @@ fn settings<'a>(matches: &ArgMatches<'a>, trace: Option<&'a str>) -> Option<RunO
         skip: number(matches, "skip", SKIP)?,
         randomize: matches.get_flag("randomize"),
         seed: number(matches, "seed", (0, u64::MAX))?,
-        strict: matches.get_flag("strict"),
+        value_change_only: choices.value_change_only,
+        plain_writes_atomic: choices.plain_writes_atomic,
         layout: layout(matches)?,
         turns: number(matches, "turns", TURNS)?,
     })
+}
+
+/// Two settings of KCSAN that are yes or no.
+#[derive(Clone, Copy, Debug, PartialEq, Eq)]
+pub(crate) struct Choices {
+    /// Whether hits that leave the value as it was give no report.
+    pub(crate) value_change_only: bool,
+    /// Whether aligned plain writes count as marked.
+    pub(crate) plain_writes_atomic: bool,
+}
+
+/// What these two settings are, by their options and `--strict`, which goes with neither of these.
+fn choices_asked(matches: &ArgMatches<'_>) -> Option<Choices>
+    ensures asked { IfSome result (AskChoices (rows_of (found_of matches.now))) }
+    ensures complete { (choices : Choices) → AskChoices (rows_of (found_of matches.now)) choices → IsSome result }
+{
+    if is_given(matches, "strict") {
+        return strict_choices(matches);
+    }
+    Some(Choices {
+        value_change_only: choice(matches.get_str("value-change-only")),
+        plain_writes_atomic: choice(matches.get_str("plain-writes-atomic")),
+    })
+}
+
+/// Both are off with `--strict`, where the option of neither is given.
+fn strict_choices(matches: &ArgMatches<'_>) -> Option<Choices>
+    requires strict { IsGiven (rows_of (found_of matches.now)) (codes "strict") }
+    ensures asked { IfSome result (AskChoices (rows_of (found_of matches.now))) }
+    ensures complete { (choices : Choices) → AskChoices (rows_of (found_of matches.now)) choices → IsSome result }
+{
+    if matches.get_str("value-change-only").is_some() {
+        return None;
+    }
+    if matches.get_str("plain-writes-atomic").is_some() {
+        return None;
+    }
+    Some(Choices {
+        value_change_only: false,
+        plain_writes_atomic: false,
+    })
+}
+
+/// What a setting is by the word of its option, if that is given, without `--strict`.
+fn choice(word: Option<&str>) -> bool
+    ensures { result ≡ choice_of (option_map (λ word. word.now) word.entry) false }
+{
+    match word {
+        None => true,
+        Some(word) => word == "yes",
+    }
 }
 
 /// The number of an option, within its bounds.
@@ -664,318 +700,4 @@ fn search_format_asked(matches: &ArgMatches<'_>) -> Option<SearchFormat>
         "herd" => SearchFormat::Herd,
         _ => SearchFormat::Text,
     })
-}
-
-/// The words that the program knows.
-fn program<'a>(alloc: Global) -> Result<Command<'a>, AllocError>
-    ensures { IfOk result IsProgram }
-{
-    let sizes = BITS.as_slice();
-    let formats = FORMATS.as_slice();
-    let search_formats = SEARCH_FORMATS.as_slice();
-    let top = named(alloc, "kcsan_litmus", help::PROGRAM, help::AFTER_PROGRAM);
-    let command = Ok(top.version(VERSION).subcommand_required(true));
-    let command = with_subcommand(command, step_command(alloc, sizes));
-    let command = with_subcommand(command, run_command(alloc, sizes));
-    let command = with_subcommand(command, search_command(alloc, sizes, search_formats));
-    let command = with_subcommand(command, races_command(alloc, sizes, formats));
-    let command = with_subcommand(command, replay_command(alloc));
-    let command = with_subcommand(command, show_command(alloc));
-    with_subcommand(command, check_command(alloc, sizes))
-}
-
-/// A command of this name, with what help says of it and behind its options.
-fn named<'a>(alloc: Global, name: &'a str, about: &'a str, after: &'a str) -> Command<'a>
-    ensures { app_of result ≡ new_app name.entry.now }
-{
-    Command::new(alloc, name).about(about).after_help(after)
-}
-
-/// A command with one more argument. Want of memory is passed on, so that functions that add many arguments have one
-/// way out: many ways out, each with a command to drop, are dear to prove.
-fn with_argument<'a>(
-    command: Result<Command<'a>, AllocError>,
-    argument: Arg<'a>,
-) -> Result<Command<'a>, AllocError>
-    ensures { (app : App) (rule : Rule) → IfOk command.entry (λ before. app_of before ≡ app) → IsArg rule argument.entry
-        → IfOk result (λ more. app_of more ≡ with_rule app rule) }
-{
-    command?.arg(argument)
-}
-
-/// A command with one more subcommand. Want of memory is passed on.
-fn with_subcommand<'a>(
-    command: Result<Command<'a>, AllocError>,
-    subcommand: Result<Command<'a>, AllocError>,
-) -> Result<Command<'a>, AllocError>
-    ensures { (app sub : App) → IfOk command.entry (λ before. app_of before ≡ app) → IfOk subcommand.entry (λ one. app_of one ≡ sub)
-        → sub.top.is_plain ≡ true → IfOk result (λ more. app_of more ≡ with_subcommand app sub.top) }
-{
-    command?.subcommand(subcommand?)
-}
-
-/// `replay`, with its file.
-fn replay_command<'a>(alloc: Global) -> Result<Command<'a>, AllocError>
-    ensures { IfOk result (λ command. app_of command ≡ replay_app) }
-{
-    let command = named(alloc, "replay", help::REPLAY, help::AFTER_REPLAY);
-    with_argument(Ok(command), file(alloc, "TRACE", help::REPLAYED))
-}
-
-/// `show`, with its file and its options.
-fn show_command<'a>(alloc: Global) -> Result<Command<'a>, AllocError>
-    ensures { IfOk result (λ command. app_of command ≡ show_app) }
-{
-    let command = Ok(named(alloc, "show", help::SHOW, help::AFTER_SHOW));
-    let command = with_argument(command, file(alloc, "TRACE", help::REPLAYED));
-    let command = with_argument(command, text_option(alloc, "svg", "PATH", help::SVG));
-    with_argument(command, flag(alloc, "ascii", help::ASCII))
-}
-
-/// `check`, with its files and its options; its `--word` takes one of these names.
-fn check_command<'a>(
-    alloc: Global,
-    sizes: &'static [&'static str],
-) -> Result<Command<'a>, AllocError>
-    ensures { IfOk result (λ command. app_of command ≡ check_app sizes.entry) }
-{
-    let command = Ok(named(alloc, "check", help::CHECK, help::AFTER_CHECK));
-    let command = with_argument(command, files(alloc, "FILE", help::FILES));
-    let command = with_argument(command, flag(alloc, "print", help::PRINT));
-    let command = with_argument(command, flag(alloc, "calls", help::CALLS));
-    let schedule = list_option(alloc, "schedule", "S", help::CHECK_SCHEDULE);
-    let command = with_argument(command, schedule);
-    let command = with_argument(command, list_option(alloc, "place", "LIST", help::PLACE));
-    let slots = number_option(alloc, "slots", help::SLOTS, SLOTS, "64");
-    let command = with_argument(command, slots);
-    with_argument(command, word_option(alloc, sizes))
-}
-
-/// The files that a command is about, where it may be about none.
-fn files<'a>(alloc: Global, name: &'a str, help: &'a str) -> Arg<'a>
-    ensures { IsArg (words_rule name.entry.now) result }
-{
-    Arg::new(alloc, name).help(help).action(ArgAction::Append)
-}
-
-/// The files that a command is about, of which there is one at least.
-fn some_files<'a>(alloc: Global, name: &'a str, help: &'a str) -> Arg<'a>
-    ensures { IsArg (some_words_rule name.entry.now) result }
-{
-    Arg::new(alloc, name)
-        .help(help)
-        .required(true)
-        .action(ArgAction::Append)
-}
-
-/// The file that a command is about.
-fn file<'a>(alloc: Global, name: &'a str, help: &'a str) -> Arg<'a>
-    ensures { IsArg (word_rule name.entry.now) result }
-{
-    Arg::new(alloc, name)
-        .help(help)
-        .required(true)
-        .action(ArgAction::Set)
-}
-
-/// `step`, with its file and its options; its `--word` takes one of these names.
-fn step_command<'a>(
-    alloc: Global,
-    sizes: &'static [&'static str],
-) -> Result<Command<'a>, AllocError>
-    ensures { IfOk result (λ command. app_of command ≡ step_app sizes.entry) }
-{
-    let command = Ok(named(alloc, "step", help::STEP, help::AFTER_STEP));
-    let command = with_argument(command, file(alloc, "FILE", help::FILE));
-    let command = with_argument(command, list_option(alloc, "schedule", "S", help::SCHEDULE));
-    with_shared(alloc, command, sizes)
-}
-
-/// `run`, with its file and its options; its `--word` takes one of these names.
-fn run_command<'a>(alloc: Global, sizes: &'static [&'static str]) -> Result<Command<'a>, AllocError>
-    ensures { IfOk result (λ command. app_of command ≡ run_app sizes.entry) }
-{
-    let command = Ok(named(alloc, "run", help::RUN, help::AFTER_RUN));
-    let command = with_argument(command, file(alloc, "FILE", help::FILE));
-    let runs = number_option(alloc, "runs", help::RUNS, RUNS, "100");
-    let command = with_argument(command, runs);
-    let delay = number_option(alloc, "delay", help::DELAY, DELAY, "64");
-    let command = with_argument(command, delay);
-    let jobs = number_option(alloc, "jobs", help::JOBS, JOBS, "1");
-    let command = with_argument(command, jobs);
-    let command = with_argument(command, flag(alloc, "stop-at-first", help::STOP_AT_FIRST));
-    let command = with_argument(command, flag(alloc, "keep-going", help::KEEP_GOING));
-    with_shared(alloc, command, sizes)
-}
-
-/// `search`, with its files and its options; its `--word` takes one of these sizes, its `--format` one of these
-/// formats.
-fn search_command<'a>(
-    alloc: Global,
-    sizes: &'static [&'static str],
-    formats: &'static [&'static str],
-) -> Result<Command<'a>, AllocError>
-    ensures { IfOk result (λ command. app_of command ≡ search_app sizes.entry formats.entry) }
-{
-    let command = Ok(named(alloc, "search", help::SEARCH, help::AFTER_SEARCH));
-    let command = with_argument(command, some_files(alloc, "FILE", help::FILES));
-    let switches = default_option(alloc, "switches", "N", help::SWITCHES, "2");
-    let command = with_argument(command, switches);
-    let limit = number_option(alloc, "limit", help::LIMIT, LIMIT, "1000000");
-    let command = with_argument(command, limit);
-    let seconds = free_number_option(alloc, "seconds", help::SECONDS, SECONDS);
-    let command = with_argument(command, seconds);
-    let jobs = number_option(alloc, "jobs", help::SEARCH_JOBS, JOBS, "1");
-    let command = with_argument(command, jobs);
-    let format = format_option(alloc, formats, help::SEARCH_FORMAT);
-    let command = with_argument(command, format);
-    with_shared(alloc, command, sizes)
-}
-
-/// `races`, with its files and its options; its `--word` takes one of these sizes, its `--format` one of these formats.
-fn races_command<'a>(
-    alloc: Global,
-    sizes: &'static [&'static str],
-    formats: &'static [&'static str],
-) -> Result<Command<'a>, AllocError>
-    ensures { IfOk result (λ command. app_of command ≡ races_app sizes.entry formats.entry) }
-{
-    let command = Ok(named(alloc, "races", help::RACES, help::AFTER_RACES));
-    let command = with_argument(command, some_files(alloc, "FILE", help::FILES));
-    let limit = number_option(alloc, "limit", help::RACES_LIMIT, LIMIT, "1000000");
-    let command = with_argument(command, limit);
-    let seconds = free_number_option(alloc, "seconds", help::RACES_SECONDS, SECONDS);
-    let command = with_argument(command, seconds);
-    let jobs = number_option(alloc, "jobs", help::RACES_JOBS, JOBS, "1");
-    let command = with_argument(command, jobs);
-    let format = format_option(alloc, formats, help::FORMAT);
-    let command = with_argument(command, format);
-    let command = with_argument(command, list_option(alloc, "place", "LIST", help::PLACE));
-    with_settings(alloc, command, sizes)
-}
-
-/// A command with the options that `step`, `run` and `search` all have. Want of memory is passed on.
-fn with_shared<'a>(
-    alloc: Global,
-    command: Result<Command<'a>, AllocError>,
-    sizes: &'static [&'static str],
-) -> Result<Command<'a>, AllocError>
-    ensures { (app : App) → IfOk command.entry (λ before. app_of before ≡ app)
-        → IfOk result (λ more. app_of more ≡ with_options app sizes.entry) }
-{
-    let command = with_argument(command, list_option(alloc, "place", "LIST", help::PLACE));
-    let command = with_argument(command, text_option(alloc, "trace", "PATH", help::TRACE));
-    with_settings(alloc, command, sizes)
-}
-
-/// A command with those of these options that `races` has behind its own. Want of memory is passed on.
-fn with_settings<'a>(
-    alloc: Global,
-    command: Result<Command<'a>, AllocError>,
-    sizes: &'static [&'static str],
-) -> Result<Command<'a>, AllocError>
-    ensures { (app : App) → IfOk command.entry (λ before. app_of before ≡ app)
-        → IfOk result (λ more. app_of more ≡ with_settings app sizes.entry) }
-{
-    let slots = number_option(alloc, "slots", help::SLOTS, SLOTS, "64");
-    let command = with_argument(command, slots);
-    let skip = number_option(alloc, "skip", help::SKIP, SKIP, "0");
-    let command = with_argument(command, skip);
-    let command = with_argument(command, flag(alloc, "randomize", help::RANDOMIZE));
-    let seed = number_option(alloc, "seed", help::SEED, (0, u64::MAX), "1");
-    let command = with_argument(command, seed);
-    let command = with_argument(command, flag(alloc, "strict", help::STRICT));
-    let command = with_argument(command, word_option(alloc, sizes));
-    let turns = number_option(alloc, "turns", help::TURNS, TURNS, "1000000");
-    with_argument(command, turns)
-}
-
-/// An option that takes a text.
-fn text_option<'a>(alloc: Global, name: &'a str, value: &'a str, help: &'a str) -> Arg<'a>
-    ensures { IsArg (text_rule name.entry.now) result }
-{
-    Arg::new(alloc, name)
-        .long(name)
-        .value_name(value)
-        .help(help)
-        .action(ArgAction::Set)
-}
-
-/// An option that takes a text, and has one where it isn't given.
-fn default_option<'a>(
-    alloc: Global,
-    name: &'a str,
-    value: &'a str,
-    help: &'a str,
-    default: &'a str,
-) -> Arg<'a>
-    ensures { IsArg (default_rule name.entry.now default.entry.now) result }
-{
-    text_option(alloc, name, value, help).default_value(default)
-}
-
-/// An option that takes a list, which is empty where it isn't given.
-fn list_option<'a>(alloc: Global, name: &'a str, value: &'a str, help: &'a str) -> Arg<'a>
-    ensures { IsArg (default_rule name.entry.now []) result }
-{
-    text_option(alloc, name, value, help).default_value("")
-}
-
-/// `--word`, which takes one of these names.
-fn word_option(alloc: Global, sizes: &'static [&'static str]) -> Arg<'static>
-    ensures { IsArg (name_rule (codes "word") sizes.entry (codes "64")) result }
-{
-    text_option(alloc, "word", "BITS", help::WORD)
-        .value_parser(sizes)
-        .default_value("64")
-}
-
-/// `--format`, which takes one of these names.
-fn format_option(
-    alloc: Global,
-    formats: &'static [&'static str],
-    help: &'static str,
-) -> Arg<'static>
-    ensures { IsArg (name_rule (codes "format") formats.entry (codes "text")) result }
-{
-    text_option(alloc, "format", "FORMAT", help)
-        .value_parser(formats)
-        .default_value("text")
-}
-
-/// An option that takes a number within bounds.
-fn number_option<'a>(
-    alloc: Global,
-    name: &'a str,
-    help: &'a str,
-    bounds: (u64, u64),
-    default: &'a str,
-) -> Arg<'a>
-    ensures { IsArg (number_rule name.entry.now bounds.0 bounds.1 default.entry.now) result }
-{
-    text_option(alloc, name, "N", help)
-        .value_parser(ValueParser::Unsigned(bounds.0, bounds.1))
-        .default_value(default)
-}
-
-/// An option that takes a number within bounds, and has none where it isn't given.
-fn free_number_option<'a>(
-    alloc: Global,
-    name: &'a str,
-    help: &'a str,
-    bounds: (u64, u64),
-) -> Arg<'a>
-    ensures { IsArg (free_number_rule name.entry.now bounds.0 bounds.1) result }
-{
-    text_option(alloc, name, "N", help).value_parser(ValueParser::Unsigned(bounds.0, bounds.1))
-}
-
-/// An option that stands alone.
-fn flag<'a>(alloc: Global, name: &'a str, help: &'a str) -> Arg<'a>
-    ensures { IsArg (flag_rule name.entry.now) result }
-{
-    Arg::new(alloc, name)
-        .long(name)
-        .help(help)
-        .action(ArgAction::SetTrue)
 }

@@ -46,7 +46,8 @@ options_of request = record {
   skip = 0;
   randomize = false;
   seed = 1;
-  strict = false;
+  value_change_only = true;
+  plain_writes_atomic = true;
   layout = request.layout;
   turns = 1000000;
 }

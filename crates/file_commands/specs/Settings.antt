@@ -1,6 +1,6 @@
 -- What a program is run under, as the options ask for it.
 use Rattle.std.specs.Global.{Global}
-use Rattle.std.specs.Prelude.{◌≡◌, Vec, not}
+use Rattle.std.specs.Prelude.{◌≡◌, Vec}
 use Rattle.cli.specs.Bounds.{KeepsBounds}
 use Rattle.cli.specs.declared.request.RunOptions.{RunOptions}
 use Rattle.prepared_program.specs.place_list.Spelling as places
@@ -14,8 +14,8 @@ settings_of options given = record {
   skip = options.skip;
   randomize = options.randomize;
   seed = options.seed;
-  value_change_only = not options.strict;
-  plain_writes_atomic = not options.strict;
+  value_change_only = options.value_change_only;
+  plain_writes_atomic = options.plain_writes_atomic;
   layout = options.layout;
   turns = options.turns;
   places = given;

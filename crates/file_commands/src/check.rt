@@ -57,7 +57,8 @@ fn step_options<'a>(request: &CheckRequest<'a>) -> RunOptions<'a>
         skip: 0,
         randomize: false,
         seed: 1,
-        strict: false,
+        value_change_only: true,
+        plain_writes_atomic: true,
         layout: request.layout,
         turns: 1_000_000,
     }

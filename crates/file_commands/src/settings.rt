@@ -18,15 +18,13 @@ use std::alloc::Global;
 pub(crate) fn settings(options: &RunOptions<'_>, places: Vec<Place>) -> Settings
     ensures { result ≡ settings_of options.now places }
 {
-    // As the kernel's CONFIG_KCSAN_REPORT_VALUE_CHANGE_ONLY and CONFIG_KCSAN_ASSUME_PLAIN_WRITES_ATOMIC are by default;
-    // `--strict` turns both off.
     Settings {
         slots: options.slots,
         skip: options.skip,
         randomize: options.randomize,
         seed: options.seed,
-        value_change_only: !options.strict,
-        plain_writes_atomic: !options.strict,
+        value_change_only: options.value_change_only,
+        plain_writes_atomic: options.plain_writes_atomic,
         layout: options.layout,
         turns: options.turns,
         places,

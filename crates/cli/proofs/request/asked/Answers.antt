@@ -9,26 +9,21 @@ pub returns-in-Some-clause-asked : goal.returns-in-Some-clause-asked
 returns-in-Some-clause-asked g c =
     let program = c.in_ok-program.ensures in
     let words = map g.S.AsStr.text c.args.words.now in
-    asked_by words program.sizes program.sizes_are program.formats program.formats_are program.search_formats program.search_formats_are
-    (subcommand_rows_of c.in_ok-matches.matches) c.in-Some.request
+    asked_by words program.names program.names_are (subcommand_rows_of c.in_ok-matches.matches) c.in-Some.request
     (ap (λ app. subcommand_of app words) (sym program.is)
-    ∙ sym (c.in_ok-matches.ensures.matches (ap is_simple program.is ∙ program_is_simple program.sizes program.formats program.search_formats)).1)
+    ∙ sym (c.in_ok-matches.ensures.matches (ap is_simple program.is ∙ program_is_simple program.names)).1)
     (subst (λ found. IfSome found (IsAskedOf (subcommand_rows_of c.in_ok-matches.matches))) c.in-Some.is c.in_ok-request.ensures.asked)
 
 pub returns-in_err-matches-clause-fails : goal.returns-in_err-matches-clause-fails
 returns-in_err-matches-clause-fails g c =
     let program = c.in_ok-program.ensures in
     let words = map g.S.AsStr.text c.args.words.now in
-    let has = c.in_err-matches.ensures.kinds (ap is_simple_and_free program.is ∙ program_is_free program.sizes program.formats program.search_formats) in
+    let has = c.in_err-matches.ensures.kinds (ap is_simple_and_free program.is ∙ program_is_free program.names) in
     let may : MayFail words (kind_of c.in_err-matches.field-0.0) = elim has [
       | inl memory ↦ inl memory
       | inr among ↦ inr (inr (record {
-        sizes = program.sizes;
-        sizes_are = program.sizes_are;
-        formats = program.formats;
-        formats_are = program.formats_are;
-        search_formats = program.search_formats;
-        search_formats_are = program.search_formats_are;
+        names = program.names;
+        names_are = program.names_are;
         said = subst (λ (app : App). IsAmong (kind_of c.in_err-matches.field-0.0) (fault_of app words)) program.is among;
       }))
     ] in
@@ -40,17 +35,13 @@ returns-clause-fails g c =
     let program = c.in_ok-program.ensures in
     let words = map g.S.AsStr.text c.args.words.now in
     let called = ap (λ app. subcommand_of app words) (sym program.is)
-    ∙ sym (c.in_ok-matches.ensures.matches (ap is_simple program.is ∙ program_is_simple program.sizes program.formats program.search_formats)).1 in
-    let sound = c.in_ok-matches.ensures.kinds (ap is_simple_and_free program.is ∙ program_is_free program.sizes program.formats program.search_formats) in
+    ∙ sym (c.in_ok-matches.ensures.matches (ap is_simple program.is ∙ program_is_simple program.names)).1 in
+    let sound = c.in_ok-matches.ensures.kinds (ap is_simple_and_free program.is ∙ program_is_free program.names) in
     inr (inl (
       c.in_ok-refused.ensures,
       record {
-        sizes = program.sizes;
-        sizes_are = program.sizes_are;
-        formats = program.formats;
-        formats_are = program.formats_are;
-        search_formats = program.search_formats;
-        search_formats_are = program.search_formats_are;
+        names = program.names;
+        names_are = program.names_are;
         sound = ap (λ app. fault_of app words) (sym program.is) ∙ sound;
         nothing = λ request may asked. is_there c.in_ok-request.request c.in_default.not-Some
             (c.in_ok-request.ensures.complete request may (subst (λ called. IsAskedOf called request) called asked));

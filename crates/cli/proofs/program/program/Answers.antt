@@ -1,8 +1,8 @@
 -- each command adds its shape
-use Rattle.std.proofs.Common.{◌∙◌, ap, map, refl, true}
+use Rattle.std.proofs.Common.{◌∙◌, ap, refl, true}
 use Rattle.std.proofs.lemmas.Result.{IfOk-weaker}
 use Rattle.clap.specs.Simple.{app_of_fields, on_top}
-use Rattle.cli.proofs.request.program.Goals as goal
+use Rattle.cli.proofs.program.program.Goals as goal
 
 pub returns : goal.returns
 returns c =
@@ -16,11 +16,7 @@ returns c =
     let e5 = c.with_subcommand-command-5.ensures _ _ e4 c.replay_command.ensures refl in
     let e6 = c.with_subcommand-command-6.ensures _ _ e5 c.show_command.ensures refl in
     IfOk-weaker c.with_subcommand.result _ _ (λ command adds. record {
-      sizes = c.as_slice-sizes.result;
-      sizes_are = ap (map (λ size. size.now)) c.as_slice-sizes.ensures;
-      formats = c.as_slice-formats.result;
-      formats_are = ap (map (λ format. format.now)) c.as_slice-formats.ensures;
-      search_formats = c.as_slice-search_formats.result;
-      search_formats_are = ap (map (λ format. format.now)) c.as_slice-search_formats.ensures;
+      names = c.option_names-names.result;
+      names_are = c.option_names-names.ensures;
       is = adds;
     }) (c.with_subcommand.ensures _ _ e6 c.check_command.ensures refl)

@@ -3,7 +3,7 @@ use Rattle.std.proofs.Common.{◌≡◌, ◌∙◌, IfOk, ap, ap₂, subst}
 use Rattle.std.proofs.lemmas.Result.{IfOk-weaker}
 use Rattle.clap.specs.Words.{App, app_of, with_subcommand}
 use Rattle.cli.proofs.ValueLemmas.{third_is_not}
-use Rattle.cli.proofs.request.with_subcommand.Goals as goal
+use Rattle.cli.proofs.program.with_subcommand.Goals as goal
 
 pub returns : goal.returns
 returns c = λ app sub before one plain.
