@@ -1,5 +1,5 @@
 -- Reports, in red.
-use Rattle.std.specs.Prelude.{◌+◌, ◌/◌, ◌||◌, ◌++◌, ℕ, Bool, List, codes, max, min}
+use Rattle.std.specs.Prelude.{◌||◌, ◌++◌, ℕ, Bool, List, codes, max, min}
 use Rattle.std.specs.Fmt.{decimal}
 use Rattle.access_types.specs.Kind.{is_assertion}
 use Rattle.access_types.specs.ReportText as report
@@ -17,12 +17,12 @@ race_title setter finder =
     ++ codes " in P" ++ decimal (min setter.access.task finder.access.task)
     ++ codes " / P" ++ decimal (max setter.access.task finder.access.task)
 
--- a race, from lane to lane
+-- a race, from lane to lane, and right of its line what it is
 abbrev pub race_line : (from to y : ℕ) → List ℕ
 race_line from to y = codes "</title><line x1=\"" ++ decimal from ++ codes ".5em\" y1=\"" ++ decimal y
-    ++ codes ".9em\" x2=\"" ++ decimal to ++ codes ".5em\" y2=\"" ++ decimal y
-    ++ codes ".9em\"/><text x=\"" ++ decimal ((from + to) / 2) ++ codes "em\" y=\"" ++ decimal y
-    ++ codes ".8em\"><tspan>RACE</tspan></text></g>\n"
+    ++ codes ".5em\" x2=\"" ++ decimal to ++ codes ".5em\" y2=\"" ++ decimal y
+    ++ codes ".5em\"/><text x=\"" ++ decimal (max from to) ++ codes ".3em\" dx=\"1em\" y=\"" ++ decimal y
+    ++ codes ".7em\"><tspan>RACE</tspan></text></g>\n"
 
 abbrev pub race : (setter finder : Stamped) → (y : ℕ) → List ℕ
 race setter finder y = codes "<g class=\"race\"><title>"

@@ -1,20 +1,15 @@
 -- A picture, as a file in SVG.
-use Rattle.std.specs.Prelude.{◌+◌, ◌-◌, ◌^◌, ◌==◌, ◌++◌, ℕ, List, [], codes, fold, if◌then◌else◌, length, min}
+use Rattle.std.specs.Prelude.{◌+◌, ◌-◌, ◌^◌, ◌==◌, ◌++◌, ℕ, List, [], codes, if◌then◌else◌, length, min}
 use Rattle.std.specs.Fmt.{decimal}
 use Rattle.std.specs.List.{flat_map}
 use Rattle.timeline.specs.declared.picture.columns.Column.{Column}
 use Rattle.timeline.specs.declared.picture.draw.Picture.{Picture}
 use Rattle.timeline.specs.picture_svg.Bars.{lane}
+use Rattle.timeline.specs.picture_svg.Legend.{legend}
 use Rattle.timeline.specs.picture_svg.Marks.{rows_marks}
+use Rattle.timeline.specs.picture_svg.Title.{title}
 use Rattle.timeline.specs.picture_svg.Watches.{taking_text, watch_text}
-
--- how wide the lanes are, up to the last task that has accesses, whose words need 38 em at most with what is before
--- them
-abbrev pub wider : ℕ → Column → ℕ
-wider width column = if length column.begins.items == 0 then width else lane column.task + 39
-
-abbrev pub width : List Column → ℕ
-width columns = fold wider 1 columns
+use Rattle.timeline.specs.picture_svg.Widths.{width}
 
 -- how everything looks, in light and in dark; the tip of an arrow; and the page behind all
 unfoldable pub looks : List ℕ
@@ -40,16 +35,20 @@ looks =
     ++ codes "<path class=\"tip\" d=\"M0 0L8 4L0 8z\"/></marker></defs>\n"
     ++ codes "<rect class=\"page\" width=\"100%\" height=\"100%\"/>\n"
 
--- what stands in front of the lanes, with four em for the headings and the end
-abbrev pub front : (width rows : ℕ) → List ℕ
-front width rows = codes "<svg xmlns=\"http://www.w3.org/2000/svg\" width=\"" ++ decimal width
-    ++ codes "em\" height=\"" ++ decimal (min (rows + 4) (2 ^ 64 - 1))
-    ++ codes "em\" font-size=\"20\" font-family=\"monospace\">\n" ++ looks
+-- what stands in front of the lanes, with eight em for the title, the headings, the end and the legend
+abbrev pub front : (width rows : ℕ) → (titled : List ℕ) → List ℕ
+front width rows titled = codes "<svg xmlns=\"http://www.w3.org/2000/svg\" width=\"" ++ decimal width
+    ++ codes "em\" height=\"" ++ decimal (min (rows + 8) (2 ^ 64 - 1))
+    ++ codes "em\" font-size=\"20\" font-family=\"monospace\">\n<title>" ++ titled ++ codes "</title>\n" ++ looks
+    ++ codes "<text x=\"1em\" y=\"1.5em\" font-weight=\"bold\">" ++ titled ++ codes "</text>\n"
+
+abbrev pub front_text : Picture → List ℕ
+front_text picture = front (width picture) (length picture.rows.items) (title picture)
 
 -- the lane of a task: one without accesses has none
 abbrev pub lane_text : (task x : ℕ) → List ℕ
-lane_text task x = codes "<text x=\"" ++ decimal x ++ codes "em\" y=\"1.5em\">P" ++ decimal task
-    ++ codes "</text><line class=\"lane\" x1=\"" ++ decimal x ++ codes ".5em\" y1=\"2em\" x2=\"" ++ decimal x
+lane_text task x = codes "<text x=\"" ++ decimal x ++ codes "em\" y=\"3.5em\">P" ++ decimal task
+    ++ codes "</text><line class=\"lane\" x1=\"" ++ decimal x ++ codes ".5em\" y1=\"4em\" x2=\"" ++ decimal x
     ++ codes ".5em\" y2=\"100%\"/>\n"
 
 abbrev pub heading : Column → List ℕ
@@ -57,12 +56,12 @@ heading column = if length column.begins.items == 0 then [] else lane_text colum
 
 -- what stands in front of the rows
 abbrev pub head_text : Picture → List ℕ
-head_text picture = front (width picture.columns.items) (length picture.rows.items)
-    ++ (flat_map heading picture.columns.items ++ codes "<svg y=\"3em\" overflow=\"visible\">\n")
+head_text picture = front_text picture
+    ++ (flat_map heading picture.columns.items ++ codes "<svg y=\"5em\" overflow=\"visible\">\n")
 
--- the picture: lanes, rows, watchpoints and takings
+-- the picture: lanes, rows, watchpoints, takings and the legend
 abbrev pub picture_svg : Picture → List ℕ
 picture_svg picture = head_text picture
     ++ (rows_marks picture.rows.items 0 picture.rows.items
     ++ (flat_map (watch_text picture.rows.items) picture.watches.items
-    ++ (flat_map (taking_text picture.rows.items) picture.takings.items ++ codes "</svg>\n</svg>\n")))
+    ++ (flat_map (taking_text picture.rows.items) picture.takings.items ++ legend)))

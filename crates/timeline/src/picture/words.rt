@@ -165,7 +165,7 @@ fn hit_words(finder: u32, outcome: HitResult) -> [Piece; 8]
 }
 
 /// What became of a hit.
-fn result_word(outcome: HitResult) -> &'static str
+pub(crate) fn result_word(outcome: HitResult) -> &'static str
     ensures { result.now ≡ spec.result_word outcome }
 {
     match outcome {

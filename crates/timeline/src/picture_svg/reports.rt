@@ -38,7 +38,7 @@ fn race_title(setter: &Stamped, finder: &Stamped) -> [Piece; 6]
     ]
 }
 
-/// Writes a race, from lane to lane.
+/// Writes a race, from lane to lane. What it is stands right of its line, in a row in which nothing begins.
 pub(crate) fn write_race<K: Sink>(
     sink: &mut K,
     setter: &Stamped,
@@ -60,15 +60,15 @@ pub(crate) fn write_race<K: Sink>(
                 Piece::Decimal(from),
                 Piece::Text(".5em\" y1=\""),
                 Piece::Decimal(y),
-                Piece::Text(".9em\" x2=\""),
+                Piece::Text(".5em\" x2=\""),
                 Piece::Decimal(to),
                 Piece::Text(".5em\" y2=\""),
                 Piece::Decimal(y),
-                Piece::Text(".9em\"/><text x=\""),
-                Piece::Decimal((from + to) / 2),
-                Piece::Text("em\" y=\""),
+                Piece::Text(".5em\"/><text x=\""),
+                Piece::Decimal(from.max(to)),
+                Piece::Text(".3em\" dx=\"1em\" y=\""),
                 Piece::Decimal(y),
-                Piece::Text(".8em\"><tspan>RACE</tspan></text></g>\n"),
+                Piece::Text(".7em\"><tspan>RACE</tspan></text></g>\n"),
             ],
         ],
     )

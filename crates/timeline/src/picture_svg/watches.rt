@@ -1,16 +1,71 @@
-//! Watchpoints, thin in the bars of their accesses, and arrows to them from the accesses that took them.
+//! Watchpoints, thin in the bars of their accesses, what became of them, and arrows to them from the accesses that took
+//! them.
 
 ghost use Rattle.std.specs.Prelude.{◌≡◌};
 ghost use Rattle.std.specs.List.{flat_map};
 ghost use Rattle.std.specs.List.Sorted.{IsNonDecreasingBy};
+ghost use Rattle.report_text.specs.Pieces.{text_of};
 ghost use Rattle.report_text.specs.Sink.{Writes};
+ghost use Rattle.timeline.specs.picture_svg.Watches as spec;
 ghost use Rattle.timeline.specs.picture_svg.Watches.{taking_text, watch_text};
 
-use crate::picture::words::{outcome_words, place_of};
+use crate::picture::words::{outcome_words, place_of, result_word};
 use crate::picture::{Row, Taking, Watch, rows_before};
 use crate::picture_svg::bars::lane;
+use access_types::{Arm, ArmOutcome, HitResult};
 use report_text::pieces::{Piece, write_parts};
 use report_text::{Sink, WriteError};
+
+/// The hit is reported.
+fn is_report(hit: HitResult) -> bool
+    ensures { result ≡ spec.is_report hit }
+{
+    matches!(hit, HitResult::Report)
+}
+
+/// A report of two accesses came of a watchpoint.
+fn is_reported(outcome: ArmOutcome) -> bool
+    ensures { result ≡ spec.is_reported outcome }
+{
+    match outcome {
+        ArmOutcome::Hit { result, .. } => is_report(result),
+        ArmOutcome::Quiet | ArmOutcome::Origin => false,
+    }
+}
+
+/// In a word what became of a watchpoint.
+fn outcome_word(outcome: ArmOutcome) -> &'static str
+    ensures { result.now ≡ spec.outcome_word outcome }
+{
+    match outcome {
+        ArmOutcome::Quiet => "quiet",
+        ArmOutcome::Origin => "unknown origin",
+        ArmOutcome::Hit { result, .. } => result_word(result),
+    }
+}
+
+/// What became of a watchpoint that gave no report of two accesses: beside its bar, in the row in which the access ends.
+/// Where an access set up several, as an assertion may, up to a hundred stand side by side.
+fn beside(x: u64, bottom: usize, arm: &Arm) -> [Piece; 9]
+    ensures { text_of result ≡ spec.beside x bottom arm.now.number arm.now.outcome }
+{
+    let outcome = arm.outcome();
+    if is_reported(outcome) {
+        return [Piece::Text(""); 9];
+    }
+    let place = 9 * arm.number().min(100);
+    [
+        Piece::Text("<text x=\""),
+        Piece::Decimal(x),
+        Piece::Text(".3em\" dx=\"1em\" y=\""),
+        Piece::Decimal(bottom as u64),
+        Piece::Text(".5em\"><tspan dx=\""),
+        Piece::Decimal(place),
+        Piece::Text("em\">"),
+        Piece::Text(outcome_word(outcome)),
+        Piece::Text("</tspan></text>"),
+    ]
+}
 
 /// Writes a watchpoint.
 fn write_watch<K: Sink>(sink: &mut K, rows: &[Row], watch: &Watch) -> Result<(), WriteError>
@@ -18,10 +73,12 @@ fn write_watch<K: Sink>(sink: &mut K, rows: &[Row], watch: &Watch) -> Result<(),
     ensures { Writes K.written K.failures result (watch_text rows.now watch.now) sink.old sink.new }
 {
     let setter = watch.setter;
+    let x = lane(setter.access().task());
     let top = rows_before(rows, setter.begin());
-    let height = rows_before(rows, setter.end()).saturating_sub(top);
+    let bottom = rows_before(rows, setter.end());
     let place = place_of(&setter);
     let outcome = outcome_words(watch.arm.outcome());
+    let beside = beside(x, bottom, &watch.arm);
     write_parts(
         sink,
         &[
@@ -35,13 +92,15 @@ fn write_watch<K: Sink>(sink: &mut K, rows: &[Row], watch: &Watch) -> Result<(),
             &outcome[..],
             &[
                 Piece::Text("</title><rect x=\""),
-                Piece::Decimal(lane(setter.access().task())),
+                Piece::Decimal(x),
                 Piece::Text(".4em\" y=\""),
                 Piece::Decimal(top as u64),
                 Piece::Text("em\" width=\"0.2em\" height=\""),
-                Piece::Decimal(height as u64),
-                Piece::Text("em\"/></g>\n"),
+                Piece::Decimal(bottom.saturating_sub(top) as u64),
+                Piece::Text("em\"/>"),
             ],
+            &beside[..],
+            &[Piece::Text("</g>\n")],
         ],
     )
 }
@@ -61,7 +120,7 @@ pub(crate) fn write_watches<K: Sink>(
     Ok(())
 }
 
-/// Writes a taking, where the later of its two accesses begins.
+/// Writes a taking, where the later of its two accesses begins, above the words of that one.
 fn write_taking<K: Sink>(sink: &mut K, rows: &[Row], taking: &Taking) -> Result<(), WriteError>
     requires { IsNonDecreasingBy (λ row. row.stamp) rows.now }
     ensures { Writes K.written K.failures result (taking_text rows.now taking.now) sink.old sink.new }
@@ -86,11 +145,11 @@ fn write_taking<K: Sink>(sink: &mut K, rows: &[Row], taking: &Taking) -> Result<
                 Piece::Decimal(lane(finder.access().task())),
                 Piece::Text(".5em\" y1=\""),
                 Piece::Decimal(y as u64),
-                Piece::Text(".3em\" x2=\""),
+                Piece::Text(".1em\" x2=\""),
                 Piece::Decimal(lane(setter.access().task())),
                 Piece::Text(".5em\" y2=\""),
                 Piece::Decimal(y as u64),
-                Piece::Text(".3em\" marker-end=\"url(#tip)\"/></g>\n"),
+                Piece::Text(".1em\" marker-end=\"url(#tip)\"/></g>\n"),
             ],
         ],
     )

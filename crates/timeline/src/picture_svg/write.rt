@@ -9,9 +9,12 @@ ghost use Rattle.timeline.specs.picture_svg.Svg.{heading, picture_svg};
 
 use crate::picture::{Column, Picture};
 use crate::picture_svg::bars::lane;
+use crate::picture_svg::legend::write_legend;
 use crate::picture_svg::marks::write_rows;
+use crate::picture_svg::title::{reports, tasks};
 use crate::picture_svg::watches::{write_takings, write_watches};
-use report_text::pieces::{Piece, write_pieces};
+use crate::picture_svg::widths::width;
+use report_text::pieces::{Piece, write_parts, write_pieces};
 use report_text::{Sink, WriteError, write_all};
 
 /// How everything looks, in light and in dark; the tip of an arrow; and the page behind all.
@@ -36,41 +39,36 @@ const LOOKS: &str = "<style>\
 <path class=\"tip\" d=\"M0 0L8 4L0 8z\"/></marker></defs>\n\
 <rect class=\"page\" width=\"100%\" height=\"100%\"/>\n";
 
-/// How wide the lanes are with one more, where they were so wide without it. The words of an access end 38 em
-/// behind the beginning of its lane at most; those of a lane inside run on over the next one.
-fn wider(width: u64, column: &Column) -> u64
-    ensures { result ≡ spec.wider width column.now }
+/// Writes what stands in front of the lanes.
+fn write_front<K: Sink>(sink: &mut K, picture: &Picture) -> Result<(), WriteError>
+    ensures { Writes K.written K.failures result (spec.front_text picture.now) sink.old sink.new }
 {
-    match column.begins.is_empty() {
-        true => width,
-        false => lane(column.task) + 39,
-    }
-}
-
-/// How wide the lanes are, up to the last task that has accesses.
-fn width(columns: &[Column]) -> u64
-    ensures { result ≡ spec.width columns.now }
-{
-    let mut width = 1;
-    for column in columns {
-        width = wider(width, column);
-    }
-    width
-}
-
-/// Writes what stands in front of the lanes, where they are so wide and there are so many rows.
-fn write_front<K: Sink>(sink: &mut K, width: u64, rows: usize) -> Result<(), WriteError>
-    ensures { Writes K.written K.failures result (spec.front width rows) sink.old sink.new }
-{
-    write_pieces(
+    let width = width(picture);
+    let height = (picture.rows.len() as u64).saturating_add(8);
+    let tasks = tasks(picture);
+    let reports = reports(picture);
+    write_parts(
         sink,
         &[
-            Piece::Text("<svg xmlns=\"http://www.w3.org/2000/svg\" width=\""),
-            Piece::Decimal(width),
-            Piece::Text("em\" height=\""),
-            Piece::Decimal((rows as u64).saturating_add(4)),
-            Piece::Text("em\" font-size=\"20\" font-family=\"monospace\">\n"),
-            Piece::Text(LOOKS),
+            &[
+                Piece::Text("<svg xmlns=\"http://www.w3.org/2000/svg\" width=\""),
+                Piece::Decimal(width),
+                Piece::Text("em\" height=\""),
+                Piece::Decimal(height),
+                Piece::Text("em\" font-size=\"20\" font-family=\"monospace\">\n<title>"),
+            ],
+            &tasks[..],
+            &[Piece::Text(", ")],
+            &reports[..],
+            &[
+                Piece::Text("</title>\n"),
+                Piece::Text(LOOKS),
+                Piece::Text("<text x=\"1em\" y=\"1.5em\" font-weight=\"bold\">"),
+            ],
+            &tasks[..],
+            &[Piece::Text(", ")],
+            &reports[..],
+            &[Piece::Text("</text>\n")],
         ],
     )
 }
@@ -88,11 +86,11 @@ fn write_heading<K: Sink>(sink: &mut K, column: &Column) -> Result<(), WriteErro
         &[
             Piece::Text("<text x=\""),
             Piece::Decimal(x),
-            Piece::Text("em\" y=\"1.5em\">P"),
+            Piece::Text("em\" y=\"3.5em\">P"),
             Piece::Decimal(column.task as u64),
             Piece::Text("</text><line class=\"lane\" x1=\""),
             Piece::Decimal(x),
-            Piece::Text(".5em\" y1=\"2em\" x2=\""),
+            Piece::Text(".5em\" y1=\"4em\" x2=\""),
             Piece::Decimal(x),
             Piece::Text(".5em\" y2=\"100%\"/>\n"),
         ],
@@ -113,14 +111,15 @@ fn write_headings<K: Sink>(sink: &mut K, columns: &[Column]) -> Result<(), Write
 fn write_head<K: Sink>(sink: &mut K, picture: &Picture) -> Result<(), WriteError>
     ensures { Writes K.written K.failures result (spec.head_text picture.now) sink.old sink.new }
 {
-    write_front(sink, width(&picture.columns), picture.rows.len())?;
+    write_front(sink, picture)?;
     write_headings(sink, &picture.columns)?;
-    write_all(sink, b"<svg y=\"3em\" overflow=\"visible\">\n")
+    write_all(sink, b"<svg y=\"5em\" overflow=\"visible\">\n")
 }
 
-/// Writes the picture as one file in SVG, without scripts and fonts from outside. Time goes downwards, a row one em
-/// high; a task has a lane, an access a bar, its watchpoints thin bars in it, a taking an arrow, and a race is red,
-/// with the title of its report. All that is written is fixed words and numbers, so nothing has to be escaped.
+/// Writes the picture as one file in SVG, without scripts and fonts from outside. Its title says how many tasks and
+/// reports there are. Time goes downwards, a row one em high; a task has a lane, an access a bar, its watchpoints thin
+/// bars in it, a taking an arrow, and a race is red, with the title of its report; a legend stands below. All that is
+/// written is fixed words and numbers, so nothing has to be escaped.
 ///
 /// `SinkFailed`: the sink failed in this call, and holds a beginning of the text.
 pub fn write_svg<K: Sink>(picture: &Picture, sink: &mut K) -> Result<(), WriteError>
@@ -131,5 +130,5 @@ pub fn write_svg<K: Sink>(picture: &Picture, sink: &mut K) -> Result<(), WriteEr
     write_rows(sink, &picture.rows)?;
     write_watches(sink, &picture.rows, &picture.watches)?;
     write_takings(sink, &picture.rows, &picture.takings)?;
-    write_all(sink, b"</svg>\n</svg>\n")
+    write_legend(sink)
 }

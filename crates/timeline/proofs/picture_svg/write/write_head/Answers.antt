@@ -5,15 +5,15 @@ use Rattle.timeline.proofs.picture_svg.write.write_head.Goals as goal
 pub returns-in_err-write_front : goal.returns-in_err-write_front
 returns-in_err-write_front g c =
     writes_error g.K.Sink.written g.K.Sink.failures _ _ _ _ c.from_residual.ensures.0
-    (fails_first g.K.Sink.written g.K.Sink.failures _ _ _ _ (rw (c.width.ensures, c.deref.ensures.value, c.len.ensures, c.args.picture.now.rows.ok.0) at c.in_err-write_front.ensures))
+    (fails_first g.K.Sink.written g.K.Sink.failures _ _ _ _ c.in_err-write_front.ensures)
 
 pub returns-in_err-write_headings : goal.returns-in_err-write_headings
 returns-in_err-write_headings g c =
     writes_error g.K.Sink.written g.K.Sink.failures _ _ _ _ c.from_residual-in_err-write_headings.ensures.0
-    (fails_second g.K.Sink.written g.K.Sink.failures _ _ _ _ _ (rw (c.width.ensures, c.deref.ensures.value, c.len.ensures, c.args.picture.now.rows.ok.0) at c.in_ok-write_front.ensures)
-    (fails_first g.K.Sink.written g.K.Sink.failures _ _ _ _ (rw c.deref-2.ensures.value at c.in_err-write_headings.ensures)))
+    (fails_second g.K.Sink.written g.K.Sink.failures _ _ _ _ _ c.in_ok-write_front.ensures
+    (fails_first g.K.Sink.written g.K.Sink.failures _ _ _ _ (rw c.deref.ensures.value at c.in_err-write_headings.ensures)))
 
 pub returns : goal.returns
 returns g c =
-    writes_after g.K.Sink.written g.K.Sink.failures _ _ _ _ _ _ (rw (c.width.ensures, c.deref.ensures.value, c.len.ensures, c.args.picture.now.rows.ok.0) at c.in_ok-write_front.ensures)
-    (writes_after g.K.Sink.written g.K.Sink.failures _ _ _ _ _ _ (rw c.deref-2.ensures.value at c.in_ok-write_headings.ensures) c.write_all.ensures)
+    writes_after g.K.Sink.written g.K.Sink.failures _ _ _ _ _ _ c.in_ok-write_front.ensures
+    (writes_after g.K.Sink.written g.K.Sink.failures _ _ _ _ _ _ (rw c.deref.ensures.value at c.in_ok-write_headings.ensures) c.write_all.ensures)

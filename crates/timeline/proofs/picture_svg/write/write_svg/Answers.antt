@@ -49,4 +49,4 @@ returns g c =
     writes_after g.K.Sink.written g.K.Sink.failures _ _ _ _ _ _ c.in_ok-write_head.ensures
     (writes_after g.K.Sink.written g.K.Sink.failures _ _ _ _ _ _ (rw c.deref.ensures.value at c.in_ok-write_rows.ensures)
     (writes_after g.K.Sink.written g.K.Sink.failures _ _ _ _ _ _ (rw (c.deref-2.ensures.value, c.deref-3.ensures.value) at c.in_ok-write_watches.ensures)
-    (writes_after g.K.Sink.written g.K.Sink.failures _ _ _ _ _ _ (rw (c.deref-4.ensures.value, c.deref-5.ensures.value) at c.in_ok-write_takings.ensures) c.write_all.ensures)))
+    (writes_after g.K.Sink.written g.K.Sink.failures _ _ _ _ _ _ (rw (c.deref-4.ensures.value, c.deref-5.ensures.value) at c.in_ok-write_takings.ensures) c.write_legend.ensures)))
