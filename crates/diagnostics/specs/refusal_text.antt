@@ -2,4 +2,6 @@ pub mod Token
 pub mod Words
 pub mod Expected
 pub mod Excerpt
+pub mod Before
+pub mod Notes
 pub mod Message

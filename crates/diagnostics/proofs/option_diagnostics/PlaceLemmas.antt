@@ -1,5 +1,5 @@
 -- An item that spells a place is read.
-use Rattle.std.proofs.Common.{◌<◌, ◌∷◌, [], List, ap, arith, length, length-append, refl, ℕ}
+use Rattle.std.proofs.Common.{◌∷◌, [], List, ap, arith, length, length-append, refl, ℕ}
 use Rattle.diagnostics.specs.option_diagnostics.Places.{Reads}
 use Rattle.prepared_program.specs.place_list.Spelling.{SpellsPlace}
 use Rattle.prepared_program.specs.declared.program_layout.place.Place.{Place}

@@ -1,5 +1,5 @@
 -- An item that spells an entry is read.
-use Rattle.std.proofs.Common.{◌<◌, ◌∷◌, [], List, ap, arith, length, length-append, refl, ℕ}
+use Rattle.std.proofs.Common.{◌∷◌, [], List, ap, arith, length, length-append, refl, ℕ}
 use Rattle.diagnostics.specs.option_diagnostics.Schedules.{Reads}
 use Rattle.prepared_program.specs.step_schedule.Spelling.{SpellsEntry}
 use Rattle.prepared_program.specs.declared.step_schedule.schedule.Entry.{Entry}

@@ -1,5 +1,5 @@
 -- What was found of files that were checked in their order, and what is printed of them.
-use Rattle.std.specs.Prelude.{◌≡◌, ◌++◌, ℕ, Bool, List, [], count_by, false, if◌then◌else◌, length, map, max, fold, true}
+use Rattle.std.specs.Prelude.{◌++◌, ℕ, Bool, List, [], count_by, false, if◌then◌else◌, length, map, max, fold, true}
 use Rattle.std.specs.List.{flat_map}
 use Rattle.std.specs.String.{string_bytes}
 use Rattle.diagnostics.specs.check_output.Output.{last_line, read_text}

@@ -6,11 +6,13 @@ use Rattle.litmus_lex.specs.Lines.{column_at, line_at}
 use Rattle.litmus_parse.specs.Text.{file_bytes}
 use Rattle.litmus_parse.specs.declared.answer.Reason.{Reason}
 use Rattle.litmus_parse.specs.declared.answer.Reason.TheVariants as reasons
+use Rattle.diagnostics.specs.refusal_text.Before.{word_before}
 use Rattle.diagnostics.specs.refusal_text.Excerpt.{excerpt}
 use Rattle.diagnostics.specs.refusal_text.Expected.{expected_text}
+use Rattle.diagnostics.specs.refusal_text.Notes.{note_of}
 use Rattle.program_table.specs.text_pieces.Shown.{shown}
 use Rattle.diagnostics.specs.refusal_text.Token.{IsTokenAt}
-use Rattle.diagnostics.specs.refusal_text.Words.{behind, excess_words, fault_words, more_than, unread_words, why}
+use Rattle.diagnostics.specs.refusal_text.Words.{behind, excess_words, fault_words, more_than, unread_words}
 
 -- what a refusal is called
 abbrev pub kind_words : Reason → List ℕ
@@ -45,21 +47,12 @@ expected_of (reasons.Limit excess) = []
 expected_of (reasons.Syntax fault expected) = expected_text expected
 expected_of (reasons.Unsupported unread expected) = expected_text expected
 
--- the line that says why what the kernel's format has isn't read
-abbrev pub note_of : Reason → (token : List ℕ) → List ℕ
-note_of reasons.OutOfMemory token = []
-note_of reasons.File token = []
-note_of reasons.NotAscii token = []
-note_of (reasons.Limit excess) token = []
-note_of (reasons.Syntax fault expected) token = []
-note_of (reasons.Unsupported unread expected) token = why unread token
-
 -- what is said of a text that is refused at a place where this token stands, in a file of this name: nothing where
 -- memory is refused
 unfoldable pub refusal_text : (name text : List ℕ) → (at : ℕ) → Reason → (token : List ℕ) → List ℕ
 refusal_text name text at reasons.OutOfMemory token = []
 refusal_text name text at reason token = concat
-    (heading name text at reason token ∷ excerpt text at ∷ expected_of reason ∷ note_of reason token ∷ [])
+    (heading name text at reason token ∷ excerpt text at ∷ expected_of reason ∷ note_of reason token (word_before text at) ∷ [])
 
 -- what is said of a text that is refused at a place, in a file of this name
 pub record IsRefusalText (name text : List ℕ) (at : ℕ) (reason : Reason) (said : List ℕ) : Type 0 where

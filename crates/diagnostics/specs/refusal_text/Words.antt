@@ -1,7 +1,7 @@
 -- Why a text is refused, in words.
-use Rattle.std.specs.Prelude.{◌==◌, ◌||◌, ◌-◌, ◌^◌, ℕ, List, [], ◌∷◌, Bool, bytes_eq, codes, if◌then◌else◌, length, nat_eq}
+use Rattle.std.specs.Prelude.{◌==◌, ◌-◌, ◌^◌, ℕ, List, [], ◌∷◌, codes, if◌then◌else◌, length}
 use Rattle.std.specs.Fmt.{decimal}
-use Rattle.std.specs.List.{concat, starts_with}
+use Rattle.std.specs.List.{concat}
 use Rattle.litmus_syntax.specs.Limits.{check_limit, nesting_limit, operators_limit, registers_limit, repeats_limit, scoped_limit, statements_limit, tasks_limit, turns_limit, variables_limit}
 use Rattle.program_table.specs.text_pieces.Shown.{shown}
 use Rattle.litmus_lex.specs.declared.cursor.Excess.{Excess}
@@ -75,37 +75,6 @@ more_than limit words = concat (codes "more than " ∷ decimal limit ∷ words �
 -- which limit is passed
 abbrev pub excess_words : Excess → List ℕ
 excess_words excess = more_than (limit_number excess) (limit_words excess)
-
--- a name begins so
-abbrev pub begins : List ℕ → List ℕ → Bool
-begins name front = starts_with nat_eq name front
-
--- a call of the kernel's format that has to do with RCU
-abbrev pub is_of_rcu : List ℕ → Bool
-is_of_rcu name = begins name (codes "rcu_") || begins name (codes "srcu_") || begins name (codes "synchronize_")
-    || bytes_eq name (codes "smp_mb__after_srcu_read_unlock")
-
--- the line that says why a call isn't read that the kernel's format has
-abbrev pub call_why : List ℕ → List ℕ
-call_why name =
-    if is_of_rcu name then codes "note: RCU needs a memory model\n"
-    else if bytes_eq name (codes "spin_trylock") || bytes_eq name (codes "spin_is_locked") then codes "note: no value comes of a lock here\n"
-    else if begins name (codes "atomic_") then codes "note: of an atomic_t only some operations are read\n"
-    else if begins name (codes "xchg_") || begins name (codes "cmpxchg_") then codes "note: it is read without an order in its name\n"
-    else if bytes_eq name (codes "barrier") then codes "note: it changes nothing here\n"
-    else if bytes_eq name (codes "smp_store_mb") then codes "note: `WRITE_ONCE` and `smp_mb` are read\n"
-    else []
-
--- the line that says why a part of a text isn't read that the kernel's format has
-abbrev pub section_why : List ℕ → List ℕ
-section_why name =
-    if begins name (codes "locations") then codes "note: it changes nothing here\n" else codes "note: no run is left out here\n"
-
--- the line that says why this isn't read, where the kernel's format has it
-unfoldable pub why : Unread → List ℕ → List ℕ
-why unreads.Call token = call_why token
-why unreads.Section token = section_why token
-why unread token = []
 
 -- a token as a message begins with it: nothing at the end of a text
 unfoldable pub quoted : List ℕ → List ℕ

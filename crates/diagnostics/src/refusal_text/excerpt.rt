@@ -15,7 +15,7 @@ const BEFORE: usize = 60;
 const WIDTH: usize = 80;
 
 /// The bytes of a place's line that stand before it.
-fn before_of(text: &[u8], at: usize) -> &[u8]
+pub(crate) fn before_of(text: &[u8], at: usize) -> &[u8]
     requires { at ≤ length text.now }
     ensures exact { result.now ≡ spec.before_of text.now at }
     ensures within { length result.now ≤ at }

@@ -4,11 +4,11 @@ ghost use Rattle.std.specs.Prelude.{◌≡◌, ◌≤◌, IfOk, length};
 ghost use Rattle.diagnostics.specs.refusal_text.Message as spec;
 ghost use Rattle.diagnostics.specs.refusal_text.Message.{IsRefusalText};
 
+use crate::refusal_text::before::word_before;
 use crate::refusal_text::excerpt::excerpt;
 use crate::refusal_text::expected::expected_text;
-use crate::refusal_text::reason::{
-    behind, excess_words, fault_words, more_than, unread_words, why,
-};
+use crate::refusal_text::note::note_of;
+use crate::refusal_text::reason::{behind, excess_words, fault_words, more_than, unread_words};
 use crate::refusal_text::token::token_at;
 use litmus_lex::{column_of, line_of};
 use litmus_parse::{Reason, Refused};
@@ -85,16 +85,6 @@ fn expected_of(alloc: Global, reason: Reason) -> Result<Vec<u8>, AllocError>
     }
 }
 
-/// The line that says why what the kernel's format has isn't read.
-fn note_of(reason: Reason, token: &[u8]) -> &'static str
-    ensures { result.now ≡ spec.note_of reason token.now }
-{
-    match reason {
-        Reason::Unsupported { unread, .. } => why(unread, token),
-        _ => "",
-    }
-}
-
 /// What is said of a text that is refused at a place where this token stands.
 #[tactic(auto, unfolding(crate::specs::refusal_text::Message::refusal_text))]
 fn with_token(
@@ -113,12 +103,13 @@ fn with_token(
     let first = heading(alloc, name, text, refused.at, refused.reason, token)?;
     let marked = excerpt(alloc, text, refused.at)?;
     let wanted = expected_of(alloc, refused.reason)?;
-    let note = note_of(refused.reason, token);
+    let note = note_of(refused.reason, token, word_before(text, refused.at));
     joined(alloc, &[&first, &marked, &wanted, note.as_bytes()])
 }
 
 /// What is said of a text that is refused, in a file of this name: where, how and why; the line of the place with a
-/// mark under it; what would stand there; and why, where the kernel's format has it. Nothing where memory is refused.
+/// mark under it; what would stand there; and what to write in its place or why it isn't read, where C or the kernel's
+/// format have it. Nothing where memory is refused.
 pub fn refusal_text(
     alloc: Global,
     name: &[u8],

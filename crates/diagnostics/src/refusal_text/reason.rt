@@ -91,64 +91,6 @@ pub(crate) fn excess_words(alloc: Global, excess: Excess) -> Result<Vec<u8>, All
     more_than(alloc, limit, words)
 }
 
-/// A call of the kernel's format that has to do with RCU.
-fn is_of_rcu(name: &[u8]) -> bool
-    ensures { result ≡ spec.is_of_rcu name.now }
-{
-    name.starts_with(b"rcu_")
-        || name.starts_with(b"srcu_")
-        || name.starts_with(b"synchronize_")
-        || name == b"smp_mb__after_srcu_read_unlock".as_slice()
-}
-
-/// The line that says why a call isn't read that the kernel's format has.
-fn call_why(name: &[u8]) -> &'static str
-    ensures { result.now ≡ spec.call_why name.now }
-{
-    if is_of_rcu(name) {
-        return "note: RCU needs a memory model\n";
-    }
-    if name == b"spin_trylock".as_slice() || name == b"spin_is_locked".as_slice() {
-        return "note: no value comes of a lock here\n";
-    }
-    if name.starts_with(b"atomic_") {
-        return "note: of an atomic_t only some operations are read\n";
-    }
-    if name.starts_with(b"xchg_") || name.starts_with(b"cmpxchg_") {
-        return "note: it is read without an order in its name\n";
-    }
-    if name == b"barrier".as_slice() {
-        return "note: it changes nothing here\n";
-    }
-    if name == b"smp_store_mb".as_slice() {
-        return "note: `WRITE_ONCE` and `smp_mb` are read\n";
-    }
-    ""
-}
-
-/// The line that says why a part of a text isn't read that the kernel's format has.
-fn section_why(name: &[u8]) -> &'static str
-    ensures { result.now ≡ spec.section_why name.now }
-{
-    if name.starts_with(b"locations") {
-        "note: it changes nothing here\n"
-    } else {
-        "note: no run is left out here\n"
-    }
-}
-
-/// The line that says why this isn't read, where the kernel's format has it.
-#[tactic(auto, unfolding(crate::specs::refusal_text::Words::why))]
-pub(crate) fn why(unread: Unread, token: &[u8]) -> &'static str
-    ensures { result.now ≡ spec.why unread token.now }
-{
-    match unread {
-        Unread::Call => call_why(token),
-        Unread::Section => section_why(token),
-        _ => "",
-    }
-}
-
 /// A token as a message begins with it: nothing at the end of a text.
 #[tactic(auto, unfolding(crate::specs::refusal_text::Words::quoted))]
 fn quoted(alloc: Global, token: &[u8]) -> Result<Vec<u8>, AllocError>

@@ -53,7 +53,7 @@ pub(crate) fn sign_words(sign: Sign) -> &'static str
 }
 
 /// A letter, a digit or `_`.
-fn is_name_byte(byte: u8) -> bool
+pub(crate) fn is_name_byte(byte: u8) -> bool
     ensures { result ≡ spec.is_name_byte byte }
 {
     byte == b'_' || byte.is_ascii_alphanumeric()

@@ -1,5 +1,5 @@
 -- The first byte that isn't of the name.
-use Rattle.std.proofs.Common.{◌≡◌, ◌∙◌, ap, arith, false, sym, true}
+use Rattle.std.proofs.Common.{◌∙◌, ap, arith, sym}
 use Rattle.std.specs.Prelude.{not}
 use Rattle.std.proofs.lemmas.List.Sums.{position_or_len_is}
 use Rattle.diagnostics.specs.refusal_text.Token.{is_no_name_byte}

@@ -1,0 +1,261 @@
+-- The last line of a message: what to write in the place of what C or the kernel's format have, or why it isn't read.
+use Rattle.std.specs.Prelude.{◌||◌, ℕ, Bool, List, [], ◌∷◌, bytes_eq, codes, false, if◌then◌else◌, nat_eq}
+use Rattle.std.specs.Char.{is_ascii_digit}
+use Rattle.std.specs.List.{starts_with}
+use Rattle.litmus_lex.specs.declared.reason.Expected.{Expected}
+use Rattle.litmus_lex.specs.declared.reason.Expected.TheVariants as places
+use Rattle.litmus_lex.specs.declared.reason.Fault.{Fault}
+use Rattle.litmus_lex.specs.declared.reason.Fault.TheVariants as faults
+use Rattle.litmus_lex.specs.declared.reason.Unread.{Unread}
+use Rattle.litmus_lex.specs.declared.reason.Unread.TheVariants as unreads
+use Rattle.litmus_lex.specs.declared.sign.Sign.{Sign}
+use Rattle.litmus_lex.specs.declared.sign.Sign.TheVariants as signs
+use Rattle.litmus_parse.specs.declared.answer.Reason.{Reason}
+use Rattle.litmus_parse.specs.declared.answer.Reason.TheVariants as reasons
+
+-- no `return`, `goto` or `break`
+unfoldable pub jump_note : List ℕ
+jump_note = codes "note: no jump is read: write an `if` round what it would skip\n"
+
+-- where nothing is computed
+unfoldable pub number_note : List ℕ
+number_note = codes "note: write the number itself, as 0x1\n"
+
+-- a variable without `*` and `&`
+unfoldable pub name_note : List ℕ
+name_note = codes "note: write the name alone, as in `spin_lock(l)`\n"
+
+-- a variable behind `*`
+unfoldable pub star_note : List ℕ
+star_note = codes "note: `*` stands before the variable, as in `int *x` and `READ_ONCE(*x)`\n"
+
+-- a name begins so
+abbrev pub begins : List ℕ → List ℕ → Bool
+begins name front = starts_with nat_eq name front
+
+-- a word that goes on elsewhere in a function of C
+unfoldable pub is_jump : List ℕ → Bool
+is_jump word = bytes_eq word (codes "return") || bytes_eq word (codes "goto") || bytes_eq word (codes "break")
+    || bytes_eq word (codes "continue")
+
+-- a type of the kernel that has 1 byte
+unfoldable pub has_one_byte : List ℕ → Bool
+has_one_byte word = bytes_eq word (codes "u8") || bytes_eq word (codes "s8") || bytes_eq word (codes "bool")
+    || bytes_eq word (codes "uint8_t") || bytes_eq word (codes "int8_t")
+
+-- a type of the kernel that has 2 bytes
+unfoldable pub has_two_bytes : List ℕ → Bool
+has_two_bytes word = bytes_eq word (codes "u16") || bytes_eq word (codes "s16") || bytes_eq word (codes "uint16_t")
+    || bytes_eq word (codes "int16_t")
+
+-- a type of the kernel that has 4 bytes
+unfoldable pub has_four_bytes : List ℕ → Bool
+has_four_bytes word = bytes_eq word (codes "u32") || bytes_eq word (codes "s32") || bytes_eq word (codes "uint32_t")
+    || bytes_eq word (codes "int32_t")
+
+-- a type of the kernel that has 8 bytes
+unfoldable pub has_eight_bytes : List ℕ → Bool
+has_eight_bytes word = bytes_eq word (codes "u64") || bytes_eq word (codes "s64") || bytes_eq word (codes "uint64_t")
+    || bytes_eq word (codes "int64_t") || bytes_eq word (codes "size_t") || bytes_eq word (codes "ssize_t")
+
+-- a type of the kernel
+unfoldable pub is_type : List ℕ → Bool
+is_type word = has_one_byte word || has_two_bytes word || has_four_bytes word || has_eight_bytes word
+
+-- which type is read in the place of one of these
+unfoldable pub type_note : List ℕ → List ℕ
+type_note word =
+    if has_one_byte word then codes "note: the type of 1 byte is `char`, with a sign\n"
+    else if has_two_bytes word then codes "note: the type of 2 bytes is `short`, with a sign\n"
+    else if has_four_bytes word then codes "note: the type of 4 bytes is `int`, with a sign\n"
+    else if has_eight_bytes word then codes "note: the type of 8 bytes is `long`, with a sign\n"
+    else []
+
+-- it begins with a digit
+unfoldable pub is_number : List ℕ → Bool
+is_number [] = false
+is_number (first ∷ others) = is_ascii_digit first
+
+-- letters that C has behind a number
+unfoldable pub is_suffix : List ℕ → Bool
+is_suffix word = bytes_eq word (codes "U") || bytes_eq word (codes "L") || bytes_eq word (codes "UL")
+    || bytes_eq word (codes "LL") || bytes_eq word (codes "ULL") || bytes_eq word (codes "u")
+
+-- an operator between two numbers
+unfoldable pub is_operator : List ℕ → Bool
+is_operator sign = bytes_eq sign (codes "|") || bytes_eq sign (codes "&") || bytes_eq sign (codes "^")
+    || bytes_eq sign (codes "+") || bytes_eq sign (codes "-") || bytes_eq sign (codes "*")
+    || bytes_eq sign (codes "/") || bytes_eq sign (codes "%") || bytes_eq sign (codes "<<") || bytes_eq sign (codes ">>")
+
+-- behind a number: an operator of C in the condition or where nothing is computed, or a suffix
+unfoldable pub behind_number : List ℕ → List ℕ
+behind_number token =
+    if bytes_eq token (codes "&&") then codes "note: in the condition it is `/\\`\n"
+    else if bytes_eq token (codes "||") then codes "note: in the condition it is `\\/`\n"
+    else if is_operator token then number_note
+    else if is_suffix token then codes "note: a number has no suffix\n"
+    else []
+
+-- behind a register that begins a statement: its assignment, or a label
+unfoldable pub register_note : List ℕ → List ℕ
+register_note token =
+    if bytes_eq token (codes ":") then jump_note
+    else if is_operator token || bytes_eq token (codes "+=")
+    then codes "note: a register is assigned by `=` alone, as `r0 = r0 | 1`\n"
+    else []
+
+-- behind a statement, as `*x`
+unfoldable pub statement_note : List ℕ → List ℕ
+statement_note token =
+    if bytes_eq token (codes "-") then codes "note: for `-=` and `--` write `*x += -1`\n"
+    else if is_operator token then codes "note: with an operator there is `+=` alone: write `r0 = *x | 1; *x = r0;`\n"
+    else []
+
+-- behind `(*x)`
+unfoldable pub increment_note : List ℕ → List ℕ
+increment_note token =
+    if bytes_eq token (codes "-") then codes "note: for `-=` and `--` write `*x += -1`\n"
+    else codes "note: `(*x)++` alone has parentheses: write `*x = 1`\n"
+
+-- in the place of a `*`: a cast, or a variable
+unfoldable pub unstarred_note : List ℕ → List ℕ
+unstarred_note token =
+    if bytes_eq token (codes "void") then codes "note: a load is a statement without a cast\n" else star_note
+
+-- what to write where this sign is expected
+unfoldable pub sign_note : Sign → (token : List ℕ) → List ℕ
+sign_note signs.Assign token = register_note token
+sign_note signs.Semicolon token = statement_note token
+sign_note signs.Increment token = increment_note token
+sign_note signs.Star token = unstarred_note token
+sign_note sign token = []
+
+-- in the place of a variable's name
+unfoldable pub starred_note : List ℕ → List ℕ
+starred_note token = if bytes_eq token (codes "*") then name_note else []
+
+-- what to write where this is expected
+unfoldable pub place_note : Expected → (token : List ℕ) → List ℕ
+place_note places.Number token = number_note
+place_note places.Type token = type_note token
+place_note places.IntegerVariable token = starred_note token
+place_note places.AtomicVariable token = starred_note token
+place_note places.LockVariable token = starred_note token
+place_note places.MemoryVariable token = starred_note token
+place_note (places.Sign sign) token = sign_note sign token
+place_note expected token = []
+
+-- what to write in the place of a token behind this word, which the program takes for a register or a variable, or
+-- behind this number
+unfoldable pub token_note : Expected → (token before : List ℕ) → List ℕ
+token_note expected token before =
+    if is_jump before then jump_note
+    else if is_type before then type_note before
+    else if is_number before then behind_number token
+    else if bytes_eq token (codes "++") then codes "note: write `(*x)++`, or `r0 = r0 + 1`\n"
+    else place_note expected token
+
+-- what to write where a text has this fault
+unfoldable pub fault_note : Fault → Expected → (token before : List ℕ) → List ℕ
+fault_note faults.Token expected token before = token_note expected token before
+fault_note fault expected token before = []
+
+-- a call of the kernel's format that has to do with RCU
+unfoldable pub is_of_rcu : List ℕ → Bool
+is_of_rcu name = begins name (codes "rcu_") || begins name (codes "srcu_") || begins name (codes "synchronize_")
+    || bytes_eq name (codes "smp_mb__after_srcu_read_unlock")
+
+-- a call of a lock
+unfoldable pub is_of_lock : List ℕ → Bool
+is_of_lock name = begins name (codes "spin_") || begins name (codes "raw_spin_") || begins name (codes "mutex_")
+
+-- a call of a lock that also keeps interrupts off
+unfoldable pub is_of_interrupts : List ℕ → Bool
+is_of_interrupts name = begins name (codes "spin_lock_irq") || begins name (codes "spin_lock_bh")
+    || begins name (codes "spin_unlock_irq") || begins name (codes "spin_unlock_bh")
+
+-- the line on a call of a lock
+unfoldable pub lock_why : List ℕ → List ℕ
+lock_why name =
+    if bytes_eq name (codes "spin_trylock") || bytes_eq name (codes "spin_is_locked") then codes "note: no value comes of a lock here\n"
+    else if begins name (codes "mutex_") then codes "note: a mutex is written as a spinlock_t, with `spin_lock` and `spin_unlock`\n"
+    else if is_of_interrupts name then codes "note: there are no interrupts here: `spin_lock` and `spin_unlock` are read\n"
+    else codes "note: of a lock `spin_lock` and `spin_unlock` are read\n"
+
+-- a call without an effect where there are no interrupts and memory is sequentially consistent
+unfoldable pub has_no_effect : List ℕ → Bool
+has_no_effect name = bytes_eq name (codes "barrier") || bytes_eq name (codes "cpu_relax")
+    || begins name (codes "local_irq_") || begins name (codes "local_bh_") || begins name (codes "preempt_")
+
+-- a call that gives a number before the program runs
+unfoldable pub is_of_number : List ℕ → Bool
+is_of_number name = bytes_eq name (codes "BIT") || bytes_eq name (codes "BIT_ULL") || bytes_eq name (codes "GENMASK")
+    || bytes_eq name (codes "sizeof")
+
+-- the line that says why a call isn't read that the kernel's format or C has
+unfoldable pub call_why : List ℕ → List ℕ
+call_why name =
+    if is_of_rcu name then codes "note: RCU needs a memory model\n"
+    else if is_of_lock name then lock_why name
+    else if begins name (codes "atomic_") then codes "note: of an atomic_t only some operations are read\n"
+    else if begins name (codes "xchg_") || begins name (codes "cmpxchg_") then codes "note: it is read without an order in its name\n"
+    else if has_no_effect name then codes "note: it changes nothing here\n"
+    else if bytes_eq name (codes "smp_store_mb") then codes "note: `WRITE_ONCE` and `smp_mb` are read\n"
+    else if is_of_number name then number_note
+    else if is_jump name then jump_note
+    else []
+
+-- the line that says why a part of a text isn't read that the kernel's format has
+unfoldable pub section_why : List ℕ → List ℕ
+section_why name =
+    if begins name (codes "locations") then codes "note: it changes nothing here\n" else codes "note: no run is left out here\n"
+
+-- a loop that waits
+unfoldable pub loop_why : List ℕ → List ℕ
+loop_why word =
+    if bytes_eq word (codes "while") || bytes_eq word (codes "do")
+    then codes "note: a wait has a number of tries: `for (i = 0; i < 3; i++) if (!r0) r0 = READ_ONCE(*x);`\n"
+    else []
+
+-- a word of C
+unfoldable pub word_why : List ℕ → List ℕ
+word_why word =
+    if bytes_eq word (codes "unsigned") then codes "note: each type has a sign: char, short, int and long\n"
+    else if bytes_eq word (codes "struct") then codes "note: a field is a variable of its own, as `int *x`\n"
+    else if bytes_eq word (codes "volatile") then codes "note: an access is marked itself, as `READ_ONCE(*x)`\n"
+    else []
+
+-- an operator of C
+unfoldable pub operator_why : List ℕ → List ℕ
+operator_why sign =
+    if bytes_eq sign (codes "&&") then codes "note: comparisons are joined by `&`, as `(r0 == 1) & (r1 == 2)`\n"
+    else if bytes_eq sign (codes "||") then codes "note: comparisons are joined by `|`, as `(r0 == 1) | (r1 == 2)`\n"
+    else []
+
+-- an address where this is expected
+unfoldable pub address_why : Expected → List ℕ
+address_why places.IntegerVariable = name_note
+address_why places.AtomicVariable = name_note
+address_why places.LockVariable = name_note
+address_why places.MemoryVariable = name_note
+address_why (places.Sign sign) = star_note
+address_why expected = []
+
+-- the line that says why this isn't read, where the kernel's format or C has it
+unfoldable pub why : Unread → Expected → (token : List ℕ) → List ℕ
+why unreads.Call expected token = call_why token
+why unreads.Section expected token = section_why token
+why unreads.Loop expected token = loop_why token
+why unreads.Type expected token = word_why token
+why unreads.Operator expected token = operator_why token
+why unreads.Address expected token = address_why expected
+why unread expected token = []
+
+-- the last line of what is said of a text that is refused where this token stands, behind this word in its line
+unfoldable pub note_of : Reason → (token before : List ℕ) → List ℕ
+note_of reasons.OutOfMemory token before = []
+note_of reasons.File token before = []
+note_of reasons.NotAscii token before = []
+note_of (reasons.Limit excess) token before = []
+note_of (reasons.Syntax fault expected) token before = fault_note fault expected token before
+note_of (reasons.Unsupported unread expected) token before = why unread expected token
