@@ -34,10 +34,10 @@ _kcsan_litmus() {
     return
   fi
   case $command in
-    step) options="--schedule -s --trace -o $settings" ;;
-    run) options="--runs -r --delay --jobs --stop-at-first --keep-going --trace -o $settings" ;;
+    step) options="--schedule -s --where --trace -o $settings" ;;
+    run) options="--runs -r --delay --jobs --stop-at-first --keep-going --where --trace -o $settings" ;;
     search)
-      options="--switches --limit --seconds --jobs --format --trace -o $settings"
+      options="--switches --limit --seconds --jobs --format --settings --where --trace -o $settings"
       formats="text json csv herd"
       ;;
     races) options="--limit --seconds --jobs --format $settings" ;;

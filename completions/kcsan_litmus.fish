@@ -22,6 +22,7 @@ complete -c kcsan_litmus -n "$seen replay show" -F
 complete -c kcsan_litmus -n "$litmus" -ka '(__fish_complete_suffix .litmus)'
 
 complete -c kcsan_litmus -n "$seen step check" -s s -l schedule -x -d 'Order of steps, as 0x7,1x9'
+complete -c kcsan_litmus -n "$seen step run search" -l where -d 'Say where each access of a report is'
 complete -c kcsan_litmus -n "$seen step run search" -s o -l trace -rF -d 'Write the trace to this file'
 
 complete -c kcsan_litmus -n "$seen run" -s r -l runs -x -d 'Number of runs'
@@ -34,6 +35,7 @@ complete -c kcsan_litmus -n "$seen search" -l switches -xa all -d 'Preemptions a
 complete -c kcsan_litmus -n "$seen search races" -l limit -x -d 'Stop after so many states'
 complete -c kcsan_litmus -n "$seen search races" -l seconds -x -d 'Stop after so many seconds'
 complete -c kcsan_litmus -n "$seen search" -l format -xa 'text json csv herd' -d 'Format of the output'
+complete -c kcsan_litmus -n "$seen search" -l settings -d 'End with a line of the settings'
 complete -c kcsan_litmus -n "$seen races" -l format -xa 'text json' -d 'Format of the output'
 
 complete -c kcsan_litmus -n "$litmus" -l place -x -d 'Addresses, as x=0x1000,c=0x10001'

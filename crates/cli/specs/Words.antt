@@ -95,9 +95,11 @@ with_settings app names =
     (text_rule (codes "kconfig")))
     (name_rule (codes "word") names.sizes (codes "64"))
 
--- a command, also with the options that `step`, `run` and `search` all have: those settings and the trace
+-- a command, also with the options that `step`, `run` and `search` all have: those settings, whether places are
+-- wanted, and the trace
 abbrev pub with_options : App → Names → App
-with_options app names = with_rule (with_settings app names) (lettered 111 (text_rule (codes "trace")))
+with_options app names =
+    with_rule (with_rule (with_settings app names) (flag_rule (codes "where"))) (lettered 111 (text_rule (codes "trace")))
 
 -- `step`, with its file, its schedule and those options
 abbrev pub step_app : Names → App
@@ -118,14 +120,15 @@ run_app names =
     (flag_rule (codes "stop-at-first")))
     (flag_rule (codes "keep-going"))) names
 
--- `search`, with its files, how what is found is printed, how many preemptions a schedule has at most, after how many
+-- `search`, with its files, how what is found is printed, whether the settings are, how many preemptions a schedule has at most, after how many
 -- schedules or states and after how many seconds a search stops, how many threads share the work, and those options;
 -- what `--switches` takes is said below
 abbrev pub search_app : Names → App
 search_app names =
-    with_options (with_rule (with_rule (with_rule (with_rule (with_rule (with_rule (new_app (codes "search"))
+    with_options (with_rule (with_rule (with_rule (with_rule (with_rule (with_rule (with_rule (new_app (codes "search"))
     (some_words_rule (codes "FILE")))
     (name_rule (codes "format") names.search_formats (codes "text")))
+    (flag_rule (codes "settings")))
     (default_rule (codes "switches") (codes "2")))
     (number_rule (codes "limit") 1 1000000000 (codes "1000000")))
     (free_number_rule (codes "seconds") 1 1000000))
@@ -286,6 +289,7 @@ pub record AskSettings (values : List Row) (options : RunOptions) : Type 0 where
   pub unread : first_of (codes "kconfig") values ≡ None
   pub layout : IsLayout values (codes "word") options.layout
   pub turns : IsNumber values (codes "turns") options.turns
+  pub located : IsFlag values (codes "where") options.located
 
 -- the values ask for this of what `step`, `run` and `search` all have
 pub record AskOptions (values : List Row) (options : RunOptions) : Type 0 where
@@ -321,6 +325,7 @@ pub record AskSearch (values : List Row) (request : SearchRequest) : Type 0 wher
   pub seconds : IsNumberIfGiven values (codes "seconds") request.seconds
   pub jobs : IsNumber values (codes "jobs") request.jobs
   pub format : IsSearchFormat values (codes "format") search_formats.Text
+  pub settings_line : IsFlag values (codes "settings") request.settings
   pub options : AskOptions values request.options
 
 -- the values of `search` ask for this of several files, or in a format for programs, and for no trace
@@ -331,6 +336,7 @@ pub record AskSearches (values : List Row) (request : SearchesRequest) : Type 0 
   pub seconds : IsNumberIfGiven values (codes "seconds") request.seconds
   pub jobs : IsNumber values (codes "jobs") request.jobs
   pub format : IsSearchFormat values (codes "format") request.format
+  pub settings_line : IsFlag values (codes "settings") request.settings
   pub settings : AskSettings values request.options
   pub trace : first_of (codes "trace") values ≡ None
   pub untraced : request.options.trace ≡ None

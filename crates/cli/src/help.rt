@@ -334,6 +334,22 @@ pub const TRACE: Help = Help {
         'search' that of the first schedule with a report",
 };
 
+/// What `--where` does.
+pub const WHERE: Help = Help {
+    brief: "Says where each access of a report is",
+    full: "\
+        Says behind each access of a report where it is: file, line, column,\n\
+        variable and statement",
+};
+
+/// What `--settings` of `search` does.
+pub const SETTINGS: Help = Help {
+    brief: "Ends with a line of the settings",
+    full: "\
+        Ends what is printed of a file, as text, with a line of KCSAN's\n\
+        settings, as a search at a terminal does",
+};
+
 /// What `--slots` says.
 pub const SLOTS: Help = Help {
     brief: "Page slots of watchpoints",

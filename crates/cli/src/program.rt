@@ -255,6 +255,7 @@ fn search_command<'a>(alloc: Global, names: Names) -> Result<Command<'a>, AllocE
     let command = with_heading(command, OUTPUT);
     let format = format_option(alloc, names.search_formats, help::SEARCH_FORMAT);
     let command = with_argument(command, format);
+    let command = with_argument(command, flag(alloc, "settings", help::SETTINGS));
     let command = with_heading(command, SEARCH);
     let switches = default_option(alloc, "switches", "N", help::SWITCHES, "2");
     let command = with_argument(command, switches);
@@ -298,6 +299,7 @@ fn with_shared<'a>(
 {
     let command = with_settings(alloc, command, names);
     let command = with_heading(command, OUTPUT);
+    let command = with_argument(command, flag(alloc, "where", help::WHERE));
     let trace = lettered(text_option(alloc, "trace", "PATH", help::TRACE), 'o');
     with_argument(command, trace)
 }

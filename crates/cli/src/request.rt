@@ -108,6 +108,8 @@ pub struct SearchRequest<'a> {
     pub seconds: Option<u64>,
     /// How many threads share several files. This one is searched by one thread, whatever this is.
     pub jobs: u64,
+    /// Whether the settings are printed.
+    pub settings: bool,
     /// What `step` could be given as well.
     pub options: RunOptions<'a>,
 }
@@ -140,6 +142,8 @@ pub struct SearchesRequest<'a> {
     pub jobs: u64,
     /// How what is found is printed.
     pub format: SearchFormat,
+    /// Whether the settings are printed, where that is as text.
+    pub settings: bool,
     /// What `step` could be given as well, without a trace.
     pub options: RunOptions<'a>,
 }
@@ -210,6 +214,8 @@ pub struct RunOptions<'a> {
     pub layout: Layout,
     /// At so many failed tries of one wait a task is stuck.
     pub turns: u64,
+    /// Whether it is said of each access of a report where it is. `races` says that of each of its sites.
+    pub located: bool,
 }
 
 /// What the words ask for; the first of them is the program's name. An error is a mistake in them, or asks for help or
@@ -487,6 +493,7 @@ fn search_request<'a>(file: &'a str, search: &ArgMatches<'a>) -> Option<Request<
         limit: number(search, "limit", LIMIT)?,
         seconds: number_if_given(search, "seconds", SECONDS)?,
         jobs: number(search, "jobs", JOBS)?,
+        settings: search.get_flag("settings"),
         options: options(search)?,
     }))
 }
@@ -517,6 +524,7 @@ fn searches_request<'a>(
         seconds: number_if_given(search, "seconds", SECONDS)?,
         jobs: number(search, "jobs", JOBS)?,
         format,
+        settings: search.get_flag("settings"),
         options: settings(search, None)?,
     }))
 }
@@ -580,6 +588,7 @@ fn settings<'a>(matches: &ArgMatches<'a>, trace: Option<&'a str>) -> Option<RunO
         plain_writes_atomic: choices.plain_writes_atomic,
         layout: layout(matches)?,
         turns: number(matches, "turns", TURNS)?,
+        located: matches.get_flag("where"),
     })
 }
 

@@ -17,13 +17,12 @@ use Rattle.file_commands.specs.declared.complaint.Complaint.{Complaint}
 use Rattle.diagnostics.specs.text_check.Check.{IsCheckOf}
 use Rattle.diagnostics.specs.declared.text_check.checked.Check.{Check}
 use Rattle.file_commands.specs.Desks.{DeskState}
-use Rattle.file_commands.specs.FileWork.{AreLeftOut, AreLookedInto, Asked, CanCount, FileFound, IsClear, IsClearText, IsFileFound, IsFoundIn, IsLookedAt, IsLookedInto, LooksInto, PassedOver}
+use Rattle.file_commands.specs.FileWork.{AreLeftOut, AreLookedInto, Asked, CanCount, FileFound, IsClear, IsClearText, IsFileFound, IsFoundIn, IsLookedAt, IsLookedInto, IsSearchFound, LooksInto, PassedOver}
 use Rattle.file_commands.specs.FileWork.{Refused, Searched, counted, counts_of, file_of, file_status_of, files_of, files_output_of, has_names, has_rows, heading_of, has_search_rows, is_more}
 use Rattle.file_commands.specs.FileWork.{is_text, last_line_of, no_counts, once_given, printed_of, rank, refused_by, search_verdict_of, status_of_all, unsearched_text}
 use Rattle.file_commands.specs.FileWork.{verdict_in, verdict_status_of, worse}
 use Rattle.file_commands.specs.declared.work.Work.{Work}
 use Rattle.file_commands.specs.declared.work.Work.TheVariants as works
-use Rattle.search_formats.specs.Files.{IsFileSearched}
 use Rattle.search_formats.specs.Refusals as unsearched
 use Rattle.search_formats.specs.declared.refusal.Refusal.{Refusal}
 use Rattle.search_formats.specs.declared.refusal.Refusal.TheVariants as refusals
@@ -223,7 +222,7 @@ none_by_format name search_formats.Herd status why none = refl
 
 pub none_by_rows : (work : Work) (name : List ℕ) (status : ℕ) (why : Refusal) → has_rows work ≡ false → unsearched_text work name status why ≡ []
 none_by_rows (works.Races work) name status why none = refl
-none_by_rows (works.Search wanted) name status why none = none_by_format name wanted.format status why none
+none_by_rows (works.Search work) name status why none = none_by_format name work.wanted.format status why none
 
 -- so far the files were looked into as they are asked for
 abbrev pub looks_so_far : (asked : Asked) (settings : Settings) (count : ℕ) (output : List ℕ) (counts : FileCounts) (status : ℕ)
@@ -291,7 +290,7 @@ rank_zero status none = by (status == 75) refl none where
 
 worse_zero : (work : Work) (status other : ℕ) → worse work status other ≡ 0 → (status ≡ 0) × (other ≡ 0)
 worse_zero (works.Races work) status other none = (omega (arith, none), omega (arith, none))
-worse_zero (works.Search wanted) status other none = by (nat_lt (rank status) (rank other)) refl none where
+worse_zero (works.Search work) status other none = by (nat_lt (rank status) (rank other)) refl none where
   by : (higher : Bool) → nat_lt (rank status) (rank other) ≡ higher → (if higher then other else status) ≡ 0 → (status ≡ 0) × (other ≡ 0)
   by true is none =
       let zero_rank : rank other ≡ 0 = ap rank none in
@@ -346,10 +345,10 @@ search_free false false is = (refl, refl)
 clear_text : (work : Work) (settings : Settings) (name text output : List ℕ) (verdict : FileVerdict)
     → IsFoundIn work settings name text output verdict → verdict ≡ verdicts.Free → IsClearText work settings name text output
 clear_text (works.Races work) settings name text output verdict is free = is.1 free
-clear_text (works.Search wanted) settings name text output verdict is free =
+clear_text (works.Search work) settings name text output verdict is free =
     let none = search_free is.0 is.1 (sym is.3 ∙ free) in
-    subst (λ b. IsFileSearched name text settings wanted false b output) none.1
-    (subst (λ b. IsFileSearched name text settings wanted b is.1 output) none.0 is.2)
+    subst (λ b. IsSearchFound work settings name text output false b) none.1
+    (subst (λ b. IsSearchFound work settings name text output b is.1) none.0 is.2)
 
 -- a file has the status 0 where it is clear
 clear_alone : (work : Work) (settings : Settings) (found : FileFound) → IsFileFound work settings found → file_status_of found ≡ 0

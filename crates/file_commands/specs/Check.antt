@@ -50,6 +50,7 @@ options_of request = record {
   plain_writes_atomic = true;
   layout = request.layout;
   turns = 1000000;
+  located = false;
 }
 
 -- these are the settings that are asked for, and the schedule that is asked for reads

@@ -20,6 +20,8 @@ use Rattle.file_commands.specs.declared.failure.Failure.TheVariants as failure
 use Rattle.file_commands.specs.declared.complaint.Complaint.{Complaint}
 use Rattle.file_commands.specs.declared.complaint.Complaint.TheVariants as complaints
 use Rattle.file_commands.specs.declared.files.FileSaid.{FileSaid}
+use Rattle.file_commands.specs.Additions.{HasAdditions}
+use Rattle.file_commands.specs.declared.work.SearchWork.{SearchWork}
 use Rattle.file_commands.specs.declared.work.Work.{Work}
 use Rattle.file_commands.specs.declared.work.Work.TheVariants as works
 use Rattle.litmus_parse.specs.Text.{file_bytes}
@@ -72,7 +74,7 @@ is_search_text search_formats.Herd = false
 -- text is written of each file
 abbrev pub is_text : Work → Bool
 is_text (works.Races work) = is_races_text work.format
-is_text (works.Search wanted) = is_search_text wanted.format
+is_text (works.Search work) = is_search_text work.wanted.format
 
 -- each file goes under its name, and a line counts them all: there are several, and text is asked for
 abbrev pub has_names : Asked → Bool
@@ -87,7 +89,7 @@ has_search_rows search_formats.Herd = false
 
 abbrev pub has_rows : Work → Bool
 has_rows (works.Races work) = false
-has_rows (works.Search wanted) = has_search_rows wanted.format
+has_rows (works.Search work) = has_search_rows work.wanted.format
 
 -- more is printed than the output of one file
 abbrev pub is_more : Asked → Bool
@@ -112,12 +114,18 @@ search_verdict_of true stopped = verdicts.Reported
 search_verdict_of false true = verdicts.Stopped
 search_verdict_of false false = verdicts.Free
 
+-- What is written of the program of the text that a file gave, which was searched, with what is wanted beside it.
+pub record IsSearchFound (work : SearchWork) (settings : Settings) (name text output : List ℕ) (raced stopped : Bool) : Type 0 where
+  pub plain : List ℕ
+  pub searched : IsFileSearched name text settings work.wanted raced stopped plain
+  pub added : HasAdditions work.additions name text settings plain output
+
 -- what is written of the text that a file gave, with this verdict, is so of it
 abbrev pub IsFoundIn : Work → Settings → (name text output : List ℕ) → FileVerdict → Type 0
 IsFoundIn (works.Races work) settings name text output verdict =
     AreRacesOfText text settings work.format name output verdict × (verdict ≡ verdicts.Free → IsFree text settings)
-IsFoundIn (works.Search wanted) settings name text output verdict =
-    (raced stopped : Bool) × IsFileSearched name text settings wanted raced stopped output × (verdict ≡ search_verdict_of raced stopped)
+IsFoundIn (works.Search work) settings name text output verdict =
+    (raced stopped : Bool) × IsSearchFound work settings name text output raced stopped × (verdict ≡ search_verdict_of raced stopped)
 
 -- what was found is so, under these settings; want of memory is no finding
 abbrev pub IsFileFound : Work → Settings → FileFound → Type 0
@@ -128,7 +136,7 @@ IsFileFound work settings (PassedOver why) = IsFound settings why × (has_tables
 -- no execution of the program of the text has a race; of a search, none that it explores has a report
 abbrev pub IsClearText : Work → Settings → (name text output : List ℕ) → Type 0
 IsClearText (works.Races work) settings name text output = IsFree text settings
-IsClearText (works.Search wanted) settings name text output = IsFileSearched name text settings wanted false false output
+IsClearText (works.Search work) settings name text output = IsSearchFound work settings name text output false false
 
 -- the file gave a text, of which this is so
 abbrev pub IsClear : Work → Settings → FileFound → Type 0
@@ -156,7 +164,7 @@ rank status = if status == 75 then 1 else status
 -- of two statuses that which counts: the greater, and of searches that of the higher rank
 abbrev pub worse : Work → (status other : ℕ) → ℕ
 worse (works.Races work) status other = max status other
-worse (works.Search wanted) status other = if nat_lt (rank status) (rank other) then other else status
+worse (works.Search work) status other = if nat_lt (rank status) (rank other) then other else status
 
 -- of these statuses that which counts: that of all files
 abbrev pub status_of_all : Work → List FileFound → ℕ
@@ -171,7 +179,7 @@ under_search_name name output = concat (codes "== " ∷ shown name ∷ codes "\n
 
 abbrev pub under_name : Work → (name output : List ℕ) → List ℕ
 under_name (works.Races work) name output = under_races_name name output
-under_name (works.Search wanted) name output = under_search_name name output
+under_name (works.Search work) name output = under_search_name name output
 
 -- why a text has no output
 abbrev pub refusal_in : EngineError → Refusal
@@ -199,7 +207,7 @@ refusal_of (Lost name) = refusals.CannotRead
 -- what is printed of a file that isn't looked into
 abbrev pub unsearched_text : Work → (name : List ℕ) → (status : ℕ) → Refusal → List ℕ
 unsearched_text (works.Races work) name status why = []
-unsearched_text (works.Search wanted) name status why = unsearched.refused_text name wanted.format status why
+unsearched_text (works.Search work) name status why = unsearched.refused_text name work.wanted.format status why
 
 -- what is printed of a file
 abbrev pub printed_of : (names : Bool) → Work → FileFound → List ℕ
@@ -246,12 +254,12 @@ counts_of founds = fold counted no_counts (map verdict_in founds)
 -- what is written in front of all files
 abbrev pub heading_of : Work → List ℕ
 heading_of (works.Races work) = []
-heading_of (works.Search wanted) = searched_line.heading wanted.format
+heading_of (works.Search work) = searched_line.heading work.wanted.format
 
 -- the line that counts files
 abbrev pub last_line_of : Work → FileCounts → List ℕ
 last_line_of (works.Races work) counts = races_line.last_line counts
-last_line_of (works.Search wanted) counts = searched_line.last_line counts
+last_line_of (works.Search work) counts = searched_line.last_line counts
 
 -- what is printed of all files: of several, as text, with a line behind that counts them
 abbrev pub files_output_of : (names : Bool) → Work → List FileFound → List ℕ

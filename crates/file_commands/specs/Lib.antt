@@ -1,4 +1,5 @@
 pub mod Files
+pub mod Additions
 pub mod StandardError
 pub mod Desks
 pub mod Failures

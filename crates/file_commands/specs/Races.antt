@@ -1,5 +1,5 @@
 -- What `races` and a search of several files do with their files.
-use Rattle.std.specs.Prelude.{ℕ}
+use Rattle.std.specs.Prelude.{◌&&◌, ◌||◌, ℕ, Bool}
 use Rattle.cli.specs.declared.request.RacesFormat.{RacesFormat}
 use Rattle.cli.specs.declared.request.RacesFormat.TheVariants as races_asked
 use Rattle.cli.specs.declared.request.RacesRequest.{RacesRequest}
@@ -10,9 +10,11 @@ use Rattle.cli.specs.declared.request.Switches.{Switches}
 use Rattle.cli.specs.declared.request.Switches.TheVariants as switches
 use Rattle.file_commands.specs.Desks.{DeskState}
 use Rattle.file_commands.specs.FileWork as work
+use Rattle.file_commands.specs.declared.additions.Additions.{Additions}
 use Rattle.file_commands.specs.FileWork.{Asked, FilesEnd}
 use Rattle.file_commands.specs.declared.work.Work.TheVariants as works
 use Rattle.file_commands.specs.declared.work.RacesWork.{RacesWork}
+use Rattle.file_commands.specs.declared.work.SearchWork.{SearchWork}
 use Rattle.search_formats.specs.declared.wanted.FileWanted.{FileWanted}
 use Rattle.race_output.specs.declared.file.Format as races_format
 use Rattle.race_output.specs.declared.file.Format.TheVariants as races_formats
@@ -42,14 +44,24 @@ preemptions_of switches.All = preemptions.Any
 abbrev pub races_work : RacesRequest → RacesWork
 races_work request = record { wanted = record { limit = request.limit; seconds = request.seconds }; format = format_of request.format }
 
--- how files are searched, and what is found is written
-abbrev pub search_work : SearchesRequest → FileWanted
-search_work request = record {
+-- how files are searched, and in which format what is found is written
+abbrev pub search_wanted : SearchesRequest → FileWanted
+search_wanted request = record {
   preemptions = preemptions_of request.switches;
   limit = request.limit;
   seconds = request.seconds;
   format = search_format_of request.format;
 }
+
+-- What is printed beside what was found, where standard output is a terminal or not: in a format for programs nothing.
+abbrev pub search_additions : SearchesRequest → (at_terminal : Bool) → Additions
+search_additions request at_terminal = record {
+  places = work.is_search_text (search_format_of request.format) && request.options.located;
+  settings = work.is_search_text (search_format_of request.format) && (request.settings || at_terminal);
+}
+
+abbrev pub search_work : SearchesRequest → (at_terminal : Bool) → SearchWork
+search_work request at_terminal = record { wanted = search_wanted request; additions = search_additions request at_terminal }
 
 -- what `races` is asked to do with its files
 abbrev pub asked_of_races : RacesRequest → Asked
@@ -61,11 +73,11 @@ asked_of_races request = record {
 }
 
 -- what a search of several files is asked to do with them
-abbrev pub asked_of_search : SearchesRequest → Asked
-asked_of_search request = record {
+abbrev pub asked_of_search : SearchesRequest → (at_terminal : Bool) → Asked
+asked_of_search request at_terminal = record {
   files = request.files.items;
   options = request.options;
-  work = works.Search (search_work request);
+  work = works.Search (search_work request at_terminal);
   jobs = request.jobs;
 }
 
@@ -77,6 +89,6 @@ AreSeveral request = work.AreSeveral (asked_of_races request)
 abbrev pub RacesEnds : RacesRequest → (status : ℕ) → DeskState → DeskState → Type 0
 RacesEnds request status before after = FilesEnd (asked_of_races request) status before after
 
--- how a search of several files ends, or one that is written for programs
+-- how a search of several files ends, or one that is written for programs, where standard output is a terminal or not
 abbrev pub SearchesEnd : SearchesRequest → (status : ℕ) → DeskState → DeskState → Type 0
-SearchesEnd request status before after = FilesEnd (asked_of_search request) status before after
+SearchesEnd request status before after = (at_terminal : Bool) × FilesEnd (asked_of_search request at_terminal) status before after

@@ -61,6 +61,7 @@ fn step_options<'a>(request: &CheckRequest<'a>) -> RunOptions<'a>
         plain_writes_atomic: true,
         layout: request.layout,
         turns: 1_000_000,
+        located: false,
     }
 }
 

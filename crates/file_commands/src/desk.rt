@@ -69,6 +69,9 @@ pub trait Desk: Progress + SearchProgress {
     /// Is told which item of a schedule or a place list is malformed, by a line. What it says of that is no complaint.
     fn advise_item(&self, line: &Lines);
 
+    /// Whether standard output is a terminal.
+    fn is_terminal(&self) -> bool;
+
     /// Whether signs beyond ASCII can be shown where standard output goes.
     fn shows_utf8(&self) -> bool;
 

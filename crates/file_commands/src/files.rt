@@ -14,6 +14,7 @@ ghost use Rattle.file_commands.specs.Races as requests;
 ghost use Rattle.file_commands.specs.Races.{RacesEnds, SearchesEnd};
 ghost use Rattle.file_commands.specs.Settings.{AskSettings};
 
+use crate::additions::Additions;
 use crate::advice::advise_check;
 use crate::check::{Checked, print_checked, tell, tell_file, unread_complaint};
 use crate::complaint::Complaint;
@@ -22,7 +23,8 @@ use crate::failure::{Failure, NO_REPORT, OUT_OF_MEMORY, REPORTED, STOPPED};
 use crate::settings::settings_for;
 use crate::together::carry_together;
 use crate::work::{
-    RacesWork, TextFound, Work, begun, find, is_text, last_line, under_name, unsearched, worse,
+    RacesWork, SearchWork, TextFound, Work, begun, find, is_text, last_line, under_name,
+    unsearched, worse,
 };
 use cli::{RacesFormat, RacesRequest, RunOptions, SearchFormat, SearchesRequest, Switches};
 use diagnostics::check_output::{Comes, Files, file_comes};
@@ -423,15 +425,36 @@ fn search_format(format: SearchFormat) -> search_formats::Format
     }
 }
 
-/// How files are searched, and what is found is written.
-fn search_work(request: &SearchesRequest<'_>) -> FileWanted
-    ensures { result ≡ requests.search_work request.now }
+/// How files are searched, and in which format what is found is written.
+fn search_wanted(request: &SearchesRequest<'_>) -> FileWanted
+    ensures { result ≡ requests.search_wanted request.now }
 {
     FileWanted {
         preemptions: preemptions(request.switches),
         limit: request.limit,
         seconds: request.seconds,
         format: search_format(request.format),
+    }
+}
+
+/// What is printed beside what was found of each file, where standard output is a terminal or not.
+fn search_additions(request: &SearchesRequest<'_>, at_terminal: bool) -> Additions
+    ensures { result ≡ requests.search_additions request.now at_terminal }
+{
+    let as_text = matches!(request.format, SearchFormat::Text);
+    Additions {
+        places: as_text && request.options.located,
+        settings: as_text && (request.settings || at_terminal),
+    }
+}
+
+/// What is done with files that are searched.
+fn search_work(request: &SearchesRequest<'_>, at_terminal: bool) -> SearchWork
+    ensures { result ≡ requests.search_work request.now at_terminal }
+{
+    SearchWork {
+        wanted: search_wanted(request),
+        additions: search_additions(request, at_terminal),
     }
 }
 
@@ -485,7 +508,7 @@ pub fn carry_searches<R: Threads + Sync, D: Desk + Sync>(
     let asked = FilesAsked {
         files: request.files.as_slice(),
         options: request.options,
-        work: Work::Search(search_work(request)),
+        work: Work::Search(search_work(request, desk.is_terminal())),
         jobs: request.jobs,
     };
     carry_asked(rt, alloc, &asked, desk)

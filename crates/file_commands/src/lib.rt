@@ -2,6 +2,7 @@
 //! why the program does not end well, and what a program is run under.
 #![tactic(auto)]
 
+pub mod additions;
 pub mod advice;
 pub mod check;
 pub mod complaint;

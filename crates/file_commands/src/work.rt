@@ -5,6 +5,8 @@ ghost use Rattle.file_commands.specs.FileWork as spec;
 ghost use Rattle.file_commands.specs.FileWork.{IsFoundIn};
 ghost use Rattle.search_output.specs.Texts.{IsRefused};
 
+use crate::additions::{Additions, with_additions};
+use litmus_parse::ParseError;
 use litmus_step::Settings;
 use output_pieces::FileCounts;
 use program_table::text_pieces::{joined, shown};
@@ -21,13 +23,20 @@ pub(crate) struct RacesWork {
     pub(crate) format: race_output::Format,
 }
 
+/// How the program of a file is searched, and what is printed of that.
+#[derive(Clone, Copy)]
+pub(crate) struct SearchWork {
+    pub(crate) wanted: FileWanted,
+    pub(crate) additions: Additions,
+}
+
 /// What is done with a file.
 #[derive(Clone, Copy)]
 pub(crate) enum Work {
     /// Its races are looked for.
     Races(RacesWork),
     /// Its program is searched.
-    Search(FileWanted),
+    Search(SearchWork),
 }
 
 /// What was found of the text of a file: what is written of it, and the verdict.
@@ -43,7 +52,7 @@ pub(crate) fn is_text(work: Work) -> bool
 {
     match work {
         Work::Races(work) => matches!(work.format, race_output::Format::Text),
-        Work::Search(wanted) => matches!(wanted.format, search_formats::Format::Text),
+        Work::Search(work) => matches!(work.wanted.format, search_formats::Format::Text),
     }
 }
 
@@ -87,6 +96,30 @@ impl<P: SearchProgress> SearchProgress for FileProgress<'_, P> {
     }
 }
 
+/// Searches the program of the text that a file of this name gave.
+fn search<P: SearchProgress>(
+    alloc: Global,
+    work: SearchWork,
+    name: &str,
+    text: &[u8],
+    settings: &Settings,
+    progress: &P,
+) -> Result<TextFound, EngineError>
+    requires { 0 < settings.now.turns }
+    ensures found { IfOk result (λ found. IsFoundIn (Work.Search work) settings.now name.now text.now found.output.items found.verdict) }
+    ensures refused { IfErr result (IsRefused text.now settings.now) }
+{
+    let found = search_file(alloc, name, text, settings, work.wanted, progress)?;
+    let Ok(output) = with_additions(alloc, work.additions, name, text, settings, found.output)
+    else {
+        return Err(EngineError::Text(ParseError::OutOfMemory));
+    };
+    Ok(TextFound {
+        verdict: search_verdict(found.raced, found.stopped),
+        output,
+    })
+}
+
 /// Looks into the text that a file of this name gave.
 pub(crate) fn find<P: SearchProgress>(
     alloc: Global,
@@ -120,13 +153,7 @@ pub(crate) fn find<P: SearchProgress>(
                 verdict: races.verdict,
             })
         }
-        Work::Search(wanted) => {
-            let found = search_file(alloc, name, text, settings, wanted, &progress)?;
-            Ok(TextFound {
-                verdict: search_verdict(found.raced, found.stopped),
-                output: found.output,
-            })
-        }
+        Work::Search(work) => search(alloc, work, name, text, settings, &progress),
     }
 }
 
@@ -153,8 +180,8 @@ fn has_rows(work: Work) -> bool
 {
     match work {
         Work::Races(_) => false,
-        Work::Search(wanted) => matches!(
-            wanted.format,
+        Work::Search(work) => matches!(
+            work.wanted.format,
             search_formats::Format::Json | search_formats::Format::Csv
         ),
     }
@@ -172,8 +199,8 @@ pub(crate) fn unsearched(
     ensures rows { OnErr result (spec.has_rows work ≡ true) }
 {
     match work {
-        Work::Search(wanted) if has_rows(work) => {
-            refused_text(alloc, name, wanted.format, status, why)
+        Work::Search(searched) if has_rows(work) => {
+            refused_text(alloc, name, searched.wanted.format, status, why)
         }
         _ => Ok(Vec::new(alloc)),
     }
@@ -185,7 +212,7 @@ pub(crate) fn begun(alloc: Global, work: Work) -> Result<Vec<u8>, AllocError>
 {
     match work {
         Work::Races(_) => Ok(Vec::new(alloc)),
-        Work::Search(wanted) => heading(wanted.format).to_vec(alloc),
+        Work::Search(work) => heading(work.wanted.format).to_vec(alloc),
     }
 }
 

@@ -308,6 +308,10 @@ impl Desk for System {
         }
     }
 
+    fn is_terminal(&self) -> bool {
+        self.output.rt.stdout().is_terminal()
+    }
+
     fn shows_utf8(&self) -> bool {
         locale::shows_utf8(&self.output.rt)
     }

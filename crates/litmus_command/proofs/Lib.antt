@@ -1,3 +1,4 @@
+mod AdditionsLemmas
 mod AskedLemmas
 mod ResultLemmas
 mod EndLemmas

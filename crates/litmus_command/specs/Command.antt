@@ -1,5 +1,5 @@
 -- What the program does for what it is asked, and what each status says.
-use Rattle.std.specs.Prelude.{◌≡◌, ◌≢◌, ◌<◌, ◌≤◌, ◌⊎◌, ℕ, List, Option, Some, None, Bool, true, false, is_some}
+use Rattle.std.specs.Prelude.{◌≡◌, ◌≢◌, ◌<◌, ◌≤◌, ◌⊎◌, ◌||◌, ℕ, List, Option, Some, None, Bool, true, false, is_some}
 use Rattle.std.specs.Option.{option_map}
 use Rattle.cli.specs.Bounds.{MayBeAsked}
 use Rattle.clap.specs.Words.{kind_of}
@@ -40,8 +40,10 @@ use Rattle.search_run.specs.declared.wanted.Wanted.{Wanted}
 use Rattle.trace_replay.specs.Answer as answers
 use Rattle.trace_replay.specs.declared.accepted.TraceError.{TraceError}
 use Rattle.diagnostics.specs.text_check.Calls.{calls_text}
+use Rattle.file_commands.specs.Additions.{HasAdditions}
 use Rattle.file_commands.specs.Check.{CheckAsksFor, CheckEnds, IsOutOfMemory, IsSeveral}
 use Rattle.file_commands.specs.Desks.{DeskState}
+use Rattle.file_commands.specs.declared.additions.Additions.{Additions}
 use Rattle.litmus_command.specs.Engine.{IsRefused, TextLeaves}
 use Rattle.file_commands.specs.Files.{FileEvent, Gave, Has, OnlyRead, noted}
 use Rattle.litmus_command.specs.Replay.{IsLineOf}
@@ -82,14 +84,24 @@ with_trace before (Some path) (Some trace) = noted before (Has path trace)
 with_trace before (Some path) None = before
 with_trace before None trace = before
 
+-- what is printed beside what was found in runs, as it is asked for
+abbrev pub run_additions_of : RunOptions → Additions
+run_additions_of options = record { places = options.located; settings = false }
+
+-- and in a search, where standard output is a terminal or not
+abbrev pub search_additions_of : SearchRequest → (at_terminal : Bool) → Additions
+search_additions_of request at_terminal = record { places = request.options.located; settings = request.settings || at_terminal }
+
 -- This is left of one run of the program that a text spells, under the settings and the schedule that are asked for:
--- whether there was a report, the output, and the trace, if it is asked for.
+-- whether there was a report, the output, with what is wanted beside it, and the trace, if it is asked for.
 pub record IsLeft (request : StepRequest) (text : List ℕ) (raced : Bool) (output : List ℕ) (trace : Option (List ℕ)) :
     Type 0 where
   pub settings : Settings
   pub entries : List Entry
   pub asks : AsksFor request settings entries
-  pub leaves : TextLeaves text settings entries raced output trace
+  pub plain : List ℕ
+  pub leaves : TextLeaves text settings entries raced plain trace
+  pub added : HasAdditions (run_additions_of request.options) request.file.now text settings plain output
   pub traced : is_some trace ≡ is_some request.options.trace
 
 -- how often a program is run, and how, as it is asked for
@@ -103,12 +115,14 @@ times_of request = record {
 }
 
 -- This is left of runs on threads of the program that a text spells, as often and under the settings as it is asked
--- for: whether there was a report, the output, and the trace of the last run that ended, if it is asked for and there
--- is one.
+-- for: whether there was a report, the output, with what is wanted beside it, and the trace of the last run that ended,
+-- if it is asked for and there is one.
 pub record AreLeft (request : RunRequest) (text : List ℕ) (raced : Bool) (output : List ℕ) (trace : Option (List ℕ)) : Type 0 where
   pub settings : Settings
   pub asks : AskSettings request.options settings
-  pub leaves : tally_output.TextLeaves text settings (times_of request) (is_some request.options.trace) raced output trace
+  pub plain : List ℕ
+  pub leaves : tally_output.TextLeaves text settings (times_of request) (is_some request.options.trace) raced plain trace
+  pub added : HasAdditions (run_additions_of request.options) request.file.now text settings plain output
 
 -- what is wanted of a search of schedules with at most so many preemptions, as it is asked for
 abbrev pub wanted_of : SearchRequest → (most : ℕ) → Wanted
@@ -132,13 +146,16 @@ IsSearchedFor request switches.All text settings raced stopped output trace =
     AllIsSearched text settings (all_wanted_of request) raced stopped output trace
 
 -- This is left of a search over the program that a text spells, within the bounds and under the settings that are asked
--- for: whether there was a report, whether others remain, the output, and the trace of the first list with a report, if
--- it is asked for and there is one.
+-- for: whether there was a report, whether others remain, the output, with what is wanted beside it, and the trace of
+-- the first list with a report, if it is asked for and there is one.
 pub record IsFound (request : SearchRequest) (stopped : Bool) (text : List ℕ) (raced : Bool) (output : List ℕ) (trace : Option (List ℕ)) :
     Type 0 where
   pub settings : Settings
   pub asks : AskSettings request.options settings
-  pub found : IsSearchedFor request request.switches text settings raced stopped output trace
+  pub plain : List ℕ
+  pub found : IsSearchedFor request request.switches text settings raced stopped plain trace
+  pub at_terminal : Bool
+  pub added : HasAdditions (search_additions_of request at_terminal) request.file.now text settings plain output
 
 -- What is left of runs was given: standard output took the output, and the trace was written, if it is asked for and
 -- there is one.

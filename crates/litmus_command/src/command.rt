@@ -12,7 +12,7 @@ ghost use Rattle.litmus_command.specs.Command.{AskForOne, AsksFor, EndsAs, HelpI
 ghost use Rattle.litmus_command.specs.Command.{AreFilesSearched, AreRaced, IsChecked, IsOfFile, IsOfSeveral, IsRefusedOf, IsStopped, IsToldApart, OfAsked};
 ghost use Rattle.litmus_command.specs.Command.{DoesNotRead, DoesRead, IsFault, IsMisused, Reads, StatusComplaint, UsageIsTold, VersionIsCut, VersionIsGiven};
 ghost use Rattle.litmus_command.specs.Command.{end_status_of, state_in};
-ghost use Rattle.litmus_command.specs.Command.{times_of, with_trace};
+ghost use Rattle.litmus_command.specs.Command.{run_additions_of, search_additions_of, times_of, with_trace};
 ghost use Rattle.litmus_command.specs.Ends.{CommandEnds, IsCarriedOut, IsNoCheck};
 ghost use Rattle.litmus_command.specs.Overwrite.{IsKept, Overwrites};
 ghost use Rattle.file_commands.specs.StandardError.{heard};
@@ -22,6 +22,7 @@ ghost use Rattle.report_text.specs.Sink.{CountsFailure};
 ghost use Rattle.std.specs.Option.{option_map};
 ghost use Rattle.prepared_program.specs.step_schedule.Schedule.{entries_of};
 
+use crate::additions::added;
 use crate::engine::run_text;
 use crate::overwrite::{overwritten, refuse_overwrite};
 use crate::replay::replayed;
@@ -33,6 +34,7 @@ use cli::{
     version_line,
 };
 use diagnostics::text_check::calls;
+use file_commands::additions::Additions;
 use file_commands::advice::{Given, advise_given};
 use file_commands::check::carry_check;
 use file_commands::complaint::Complaint;
@@ -299,6 +301,26 @@ fn emit<D: Desk>(
     }
 }
 
+/// What is printed beside what was found in runs, as it is asked for.
+fn run_additions(options: &RunOptions<'_>) -> Additions
+    ensures { result ≡ run_additions_of options.now }
+{
+    Additions {
+        places: options.located,
+        settings: false,
+    }
+}
+
+/// What is printed beside what was found in a search, where standard output is a terminal or not.
+fn search_additions(request: &SearchRequest<'_>, at_terminal: bool) -> Additions
+    ensures { result ≡ search_additions_of request.now at_terminal }
+{
+    Additions {
+        places: request.options.located,
+        settings: request.settings || at_terminal,
+    }
+}
+
 /// Steps a file, and gives what is left of that.
 fn step<D: Desk>(alloc: Global, request: &StepRequest<'_>, desk: &mut D) -> Result<u8, Failure>
     requires { KeepsBounds request.now.options }
@@ -308,7 +330,9 @@ fn step<D: Desk>(alloc: Global, request: &StepRequest<'_>, desk: &mut D) -> Resu
     let text = desk.read_file(alloc, request.file, FILE_BYTES)?;
     let traced = request.options.trace.is_some();
     let written = run_text(alloc, &text, &settings, &schedule, traced)?;
-    emit(request.options.trace, &written, false, desk)
+    let wanted = run_additions(&request.options);
+    let shown = added(alloc, wanted, request.file, &text, &settings, written)?;
+    emit(request.options.trace, &shown, false, desk)
 }
 
 /// How often a program is run, and how, as it is asked for.
@@ -347,8 +371,10 @@ fn run<R: Threads + Wait + Sync, D: Desk>(
     let times = times_for(request);
     let traced = request.options.trace.is_some();
     let written = run_text_often(rt, alloc, &text, &settings, times, traced, &*desk)?;
-    advise(written.raced, &*desk);
-    emit(request.options.trace, &written, false, desk)
+    let wanted = run_additions(&request.options);
+    let shown = added(alloc, wanted, request.file, &text, &settings, written)?;
+    advise(shown.raced, &*desk);
+    emit(request.options.trace, &shown, false, desk)
 }
 
 /// Searches a file, and gives what is left of that.
@@ -359,7 +385,10 @@ fn search<D: Desk>(alloc: Global, request: &SearchRequest<'_>, desk: &mut D) -> 
     let settings = settings_for(alloc, &request.options)?;
     let text = desk.read_file(alloc, request.file, FILE_BYTES)?;
     let found = search_for(alloc, request, &text, &settings, &*desk)?;
-    emit(request.options.trace, &found.written, found.stopped, desk)
+    let stopped = found.stopped;
+    let wanted = search_additions(request, desk.is_terminal());
+    let shown = added(alloc, wanted, request.file, &text, &settings, found.written)?;
+    emit(request.options.trace, &shown, stopped, desk)
 }
 
 /// Checks a trace, and writes what is said of one that is accepted. No report is told of.

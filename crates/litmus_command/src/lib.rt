@@ -2,6 +2,7 @@
 //! schedules, the check of a trace, its picture, and what is written of them.
 #![tactic(auto)]
 
+mod additions;
 pub mod command;
 pub mod engine;
 mod overwrite;

@@ -30,7 +30,7 @@ fn change_words(value_change_only: bool) -> &'static str
 }
 
 /// The line of the settings.
-pub(crate) fn settings_line(alloc: Global, settings: &Settings) -> Result<Vec<u8>, AllocError>
+pub fn settings_line(alloc: Global, settings: &Settings) -> Result<Vec<u8>, AllocError>
     ensures { IfOk result (λ text. text.items ≡ spec.settings_line settings.now) }
 {
     TextBuilder::new(alloc)

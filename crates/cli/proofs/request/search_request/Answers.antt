@@ -1,6 +1,7 @@
 -- each value is that of its option
-use Rattle.std.proofs.Common.{refl}
-use Rattle.cli.proofs.ValueLemmas.{not_missing}
+use Rattle.std.proofs.Common.{codes, refl}
+use Rattle.clap.specs.Words.{found_of}
+use Rattle.cli.proofs.ValueLemmas.{flag_read, not_missing}
 use Rattle.cli.proofs.request.search_request.Goals as goal
 
 pub returns-clause-asked : goal.returns-clause-asked
@@ -13,6 +14,8 @@ returns-clause-asked c = (
     seconds = c.in_ok-number_if_given.ensures.asked;
     jobs = c.in_ok-number-2.ensures.asked;
     format = c.requires.format;
+    settings_line = flag_read (found_of c.args.search.now) (codes "settings") c.get_flag.result c.get_flag.ensures.none
+        c.get_flag.ensures.value c.get_flag.ensures.other;
     options = c.in_ok-options.ensures.asked;
   },
 )

@@ -2,7 +2,7 @@
 use Rattle.std.proofs.Common.{◌≡◌, ◌∙◌, codes, false, is_some, refl, sym, true}
 use Rattle.clap.specs.Words.{found_of}
 use Rattle.cli.proofs.SearchLemmas.{not_unread, unread}
-use Rattle.cli.proofs.ValueLemmas.{not_missing}
+use Rattle.cli.proofs.ValueLemmas.{flag_read, not_missing}
 use Rattle.cli.proofs.request.searches_request.Goals as goal
 
 pub returns-clause-asked : goal.returns-clause-asked
@@ -16,6 +16,8 @@ returns-clause-asked c =
         seconds = c.in_ok-number_if_given.ensures.asked;
         jobs = c.in_ok-number-2.ensures.asked;
         format = c.requires.format;
+        settings_line = flag_read (found_of c.args.search.now) (codes "settings") c.get_flag.result c.get_flag.ensures.none
+            c.get_flag.ensures.value c.get_flag.ensures.other;
         settings = c.in_ok-settings.ensures.asked;
         trace = unread (found_of c.args.search.now) (codes "trace") c.get_str.result c.get_str.ensures none;
         untraced = c.in_ok-settings.ensures.trace;

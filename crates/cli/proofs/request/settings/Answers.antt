@@ -21,6 +21,8 @@ returns-clause-asked c =
       unread = unread found (codes "kconfig") c.get_str.result c.get_str.ensures none;
       layout = c.in_ok-layout.ensures.asked;
       turns = c.in_ok-number-4.ensures.asked;
+      located = flag_read found (codes "where") c.get_flag-2.result c.get_flag-2.ensures.none c.get_flag-2.ensures.value
+          c.get_flag-2.ensures.other;
     }
 
 pub returns-then-is_some-clause-complete : goal.returns-then-is_some-clause-complete
