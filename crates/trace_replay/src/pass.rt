@@ -54,7 +54,9 @@ fn replay_lines(alloc: Global, head: Head, bytes: &[u8]) -> Result<Accepted, Tra
     ensures refused { IfErr result (IsRefused (head_text (head_of head) ++ bytes.now)) }
 {
     let mut story = Story::new(alloc, bytes.len() as u64);
-    read_lines(&mut story, head, bytes)
+    let answer = read_lines(&mut story, head, bytes);
+    drop(story);
+    answer
 }
 
 /// Reads the lines behind a head, to the end, into a story of no line. The story is lent: a loop is cheaper to prove
