@@ -17,7 +17,7 @@ pub const MEANINGLESS: [&str; 7] = [
 ];
 
 /// What a configuration says of the settings of KCSAN that this program has too. A number is the text that stands there.
-#[derive(Clone, Copy, Debug, PartialEq, Eq)]
+#[derive(Clone, Copy)]
 pub struct KernelConfig<'a> {
     /// Whether only hits that change the value are reported.
     pub value_change_only: Option<bool>,

@@ -7,6 +7,3 @@ mod setting;
 
 pub use config::{KernelConfig, MEANINGLESS};
 pub use setting::is_set;
-
-#[cfg(test)]
-mod tests;

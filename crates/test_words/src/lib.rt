@@ -1,4 +1,5 @@
-//! Accesses, watch words, values and boards, tried on rows that were worked out by hand. Nothing stands on this crate.
+//! Accesses, watch words, values, boards and a kernel's configurations, tried on rows that were worked out by hand. Nothing
+//! stands on this crate.
 #![tactic(auto)]
 
 #[cfg(test)]
@@ -7,6 +8,8 @@ mod accesses;
 mod arms;
 #[cfg(test)]
 mod boards;
+#[cfg(test)]
+mod configs;
 #[cfg(test)]
 mod indices;
 #[cfg(test)]

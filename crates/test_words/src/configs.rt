@@ -1,6 +1,6 @@
-//! What is read of configurations.
+//! What is read of a kernel's configuration.
 
-use crate::{KernelConfig, is_set};
+use kernel_config::{KernelConfig, is_set};
 
 /// A part of a configuration, as the kernel's build writes it.
 const WRITTEN: &str = "\
