@@ -181,12 +181,20 @@ impl System {
 const LINES: u64 = 100;
 
 impl Progress for System {
-    /// Where standard error is a terminal, a line there counts the runs. What is written next goes over it.
+    /// Where standard error is a terminal, a line there counts the runs, with how many of them a second, and for how
+    /// many seconds the others go on at that rate. What is written next goes over it.
     fn ran(&self, runs: u64, of: u64) {
         let rt = &self.output.rt;
         let apart = (of / LINES).max(1);
         if runs.is_multiple_of(apart) && rt.stderr().is_terminal() {
-            let _ = rt.eprint(format_args!("run {runs} of {of}\x1b[K\r"));
+            let time = self.milliseconds().max(1);
+            // Of a thousand seconds, since a run may take longer than one.
+            let many = (u128::from(runs) * 1_000_000 / time).max(1);
+            let rate = many / 1000;
+            let left = u128::from(of.saturating_sub(runs)) * 1000 / many;
+            let _ = rt.eprint(format_args!(
+                "run {runs} of {of}, {rate} a second, {left} s left\x1b[K\r"
+            ));
         }
     }
 
