@@ -56,7 +56,11 @@ pub const AFTER_PROGRAM: &str = "\
     'kcsan_litmus step --help' says what a schedule is.\n\
     \n\
     'kcsan_litmus races race.litmus' says of each pair of accesses whether it\n\
-    races, in any schedule, and whether KCSAN can report that.";
+    races, in any schedule, and whether KCSAN can report that.\n\
+    \n\
+    It is a model of KCSAN's runtime: tasks interleave, memory is sequentially\n\
+    consistent, and no compiler or processor reorders accesses, so barriers change\n\
+    nothing.";
 
 /// What it says behind the options of `step`.
 pub const AFTER_STEP: &str = "\
@@ -82,6 +86,14 @@ pub const AFTER_STEP: &str = "\
     \x20\x20\x20\x20kcsan_litmus step bytes.litmus --place c=0x10001 --schedule 0x7,1x9\n\
     \n\
     puts c on the second byte of x, so that accesses to the two can race.\n\
+    \n\
+    The counters: arms, watchpoints that were set up, each of which ends as quiet\n\
+    (no access took it) or taken; lost, found but gone before they could be taken;\n\
+    two-sided and unknown, reports of two accesses and of unknown origin; encoding,\n\
+    same and masked, takings without a report, since the accesses share no byte,\n\
+    the value stayed as it was, or the mask hides the change; capacity, accesses\n\
+    that found no free index; unencodable, those that no watch word can say;\n\
+    unbalanced, calls of KCSAN and unlocks that had nothing to end.\n\
     \n\
     Exit status: 0 no report; 2 a report; 64 usage, a schedule or a place list that\n\
     is malformed or doesn't suit the file; 65 the file is refused; 66 it can't be\n\
@@ -191,12 +203,12 @@ pub const AFTER_SEARCH: &str = "\
 pub const AFTER_RACES: &str = "\
     Two accesses of different tasks conflict where they have a byte in common, and\n\
     one of them writes or asserts that no other access is there. Of each such pair\n\
-    a verdict says what the executions of the program show: that KCSAN reports the\n\
-    two; that they race, and KCSAN reports them in no execution; that they are in\n\
-    progress at one moment, and never race; or that they never are in progress at\n\
-    one moment. Reasons say why two never race or are never reported: that both\n\
-    count as marked, or that the value was the same wherever a watchpoint was hit,\n\
-    and so on. A verdict is on the program under these settings.\n\
+    a verdict says what the executions of the program show: reported, KCSAN reports\n\
+    the two; missed, they race, and KCSAN reports them in no execution; no race,\n\
+    they are in progress at one moment, and never race; or apart, they never are in\n\
+    progress at one moment. Reasons say why two never race or are never reported:\n\
+    that both count as marked, or that the value was the same wherever a watchpoint\n\
+    was hit, and so on. A verdict is on the program under these settings.\n\
     \n\
     For this all states of the program are visited, first without watchpoints, and\n\
     then with them if schedules with few switches don't report each race. Where the\n\

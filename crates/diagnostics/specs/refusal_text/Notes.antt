@@ -29,6 +29,15 @@ name_note = codes "note: write the name alone, as in `spin_lock(l)`\n"
 unfoldable pub star_note : List ℕ
 star_note = codes "note: `*` stands before the variable, as in `int *x` and `READ_ONCE(*x)`\n"
 
+-- a wait ends
+unfoldable pub wait_note : List ℕ
+wait_note = codes "note: a wait has a number of tries: `for (i = 0; i < 3; i++) if (!r0) r0 = READ_ONCE(*x);`\n"
+
+-- how a sequence count is written
+unfoldable pub sequence_note : List ℕ
+sequence_note =
+    codes "note: a sequence count is an `int`: `*seq += 1;` round the writes, `r0 = READ_ONCE(*seq);` round the reads\n"
+
 -- a name begins so
 abbrev pub begins : List ℕ → List ℕ → Bool
 begins name front = starts_with nat_eq name front
@@ -96,26 +105,28 @@ behind_number token =
     else if is_suffix token then codes "note: a number has no suffix\n"
     else []
 
--- behind a register that begins a statement: its assignment, or a label
+-- behind a register: its assignment, its value in the condition, or a label
 unfoldable pub register_note : List ℕ → List ℕ
 register_note token =
     if bytes_eq token (codes ":") then jump_note
     else if is_operator token || bytes_eq token (codes "+=")
     then codes "note: a register is assigned by `=` alone, as `r0 = r0 | 1`\n"
+    else if bytes_eq token (codes "!=") then codes "note: in the condition `~` stands before what isn't so, as `~0:r0=1`\n"
     else []
 
 -- behind a statement, as `*x`
 unfoldable pub statement_note : List ℕ → List ℕ
 statement_note token =
     if bytes_eq token (codes "-") then codes "note: for `-=` and `--` write `*x += -1`\n"
-    else if is_operator token then codes "note: with an operator there is `+=` alone: write `r0 = *x | 1; *x = r0;`\n"
+    else if is_operator token
+    then codes "note: with an operator there is `+=` alone, which is one access as `|=` is; `r0 = *x | 1; *x = r0;` is two\n"
     else []
 
 -- behind `(*x)`
 unfoldable pub increment_note : List ℕ → List ℕ
 increment_note token =
     if bytes_eq token (codes "-") then codes "note: for `-=` and `--` write `*x += -1`\n"
-    else codes "note: `(*x)++` alone has parentheses: write `*x = 1`\n"
+    else codes "note: `(*x)++` alone has parentheses: write `*x = 1` or `*x += 1`\n"
 
 -- in the place of a `*`: a cast, or a variable
 unfoldable pub unstarred_note : List ℕ → List ℕ
@@ -134,10 +145,28 @@ sign_note sign token = []
 unfoldable pub starred_note : List ℕ → List ℕ
 starred_note token = if bytes_eq token (codes "*") then name_note else []
 
+-- in the place of the type of a parameter
+unfoldable pub parameter_note : List ℕ → List ℕ
+parameter_note token =
+    if bytes_eq token (codes "const") then codes "note: leave out `const`\n"
+    else if bytes_eq token (codes "void") then codes "note: a process without variables begins with `P0()`\n"
+    else if bytes_eq token (codes "raw_spinlock_t") then codes "note: a lock is a `spinlock_t`\n"
+    else if begins token (codes "seqcount_") || bytes_eq token (codes "seqlock_t") then sequence_note
+    else type_note token
+
+-- in the place of a process
+unfoldable pub process_note : List ℕ → List ℕ
+process_note token =
+    if bytes_eq token (codes "static") || bytes_eq token (codes "void") || bytes_eq token (codes "int")
+    then codes "note: no word stands before `P0`\n"
+    else []
+
 -- what to write where this is expected
 unfoldable pub place_note : Expected → (token : List ℕ) → List ℕ
 place_note places.Number token = number_note
-place_note places.Type token = type_note token
+place_note places.Type token = parameter_note token
+place_note places.Process token = process_note token
+place_note places.Condition token = process_note token
 place_note places.IntegerVariable token = starred_note token
 place_note places.AtomicVariable token = starred_note token
 place_note places.LockVariable token = starred_note token
@@ -153,11 +182,15 @@ token_note expected token before =
     else if is_type before then type_note before
     else if is_number before then behind_number token
     else if bytes_eq token (codes "++") then codes "note: write `(*x)++`, or `r0 = r0 + 1`\n"
+    else if bytes_eq token (codes "true") || bytes_eq token (codes "false") then codes "note: write 1 for `true`, and 0 for `false`\n"
     else place_note expected token
 
 -- what to write where a text has this fault
 unfoldable pub fault_note : Fault → Expected → (token before : List ℕ) → List ℕ
 fault_note faults.Token expected token before = token_note expected token before
+fault_note faults.Variable expected token before =
+    codes "note: its memory is read and written as `*x`, or by a call, as `WRITE_ONCE(*x, 1)`\n"
+fault_note faults.Unknown expected token before = codes "note: a process has its variables as parameters, as in `P0(int *x)`\n"
 fault_note fault expected token before = []
 
 -- a call of the kernel's format that has to do with RCU
@@ -168,6 +201,7 @@ is_of_rcu name = begins name (codes "rcu_") || begins name (codes "srcu_") || be
 -- a call of a lock
 unfoldable pub is_of_lock : List ℕ → Bool
 is_of_lock name = begins name (codes "spin_") || begins name (codes "raw_spin_") || begins name (codes "mutex_")
+    || bytes_eq name (codes "guard") || bytes_eq name (codes "scoped_guard")
 
 -- a call of a lock that also keeps interrupts off
 unfoldable pub is_of_interrupts : List ℕ → Bool
@@ -192,6 +226,30 @@ unfoldable pub is_of_number : List ℕ → Bool
 is_of_number name = bytes_eq name (codes "BIT") || bytes_eq name (codes "BIT_ULL") || bytes_eq name (codes "GENMASK")
     || bytes_eq name (codes "sizeof")
 
+-- a call of a sequence count
+unfoldable pub is_of_sequence : List ℕ → Bool
+is_of_sequence name = begins name (codes "read_seq") || begins name (codes "write_seq")
+    || begins name (codes "raw_read_seq") || begins name (codes "raw_write_seq")
+
+-- a call that changes a bit of a word at once
+unfoldable pub changes_bit : List ℕ → Bool
+changes_bit name = bytes_eq name (codes "set_bit") || bytes_eq name (codes "clear_bit") || bytes_eq name (codes "change_bit")
+    || begins name (codes "test_and_")
+
+-- a call that stops the kernel, or warns, where something isn't so
+unfoldable pub asserts : List ℕ → Bool
+asserts name = begins name (codes "BUG_ON") || begins name (codes "WARN_ON") || bytes_eq name (codes "assert")
+
+-- the line on a call of the kernel that is made of accesses and calls that are read
+unfoldable pub made_of_others : List ℕ → List ℕ
+made_of_others name =
+    if is_of_sequence name then sequence_note
+    else if bytes_eq name (codes "test_bit") then codes "note: write `READ_ONCE(*x) & 2`\n"
+    else if changes_bit name then codes "note: a bit is changed by `cmpxchg` of its word\n"
+    else if begins name (codes "smp_cond_load_") then wait_note
+    else if asserts name then codes "note: what may come is asked by the condition, as `exists (1:r0=1)`\n"
+    else []
+
 -- the line that says why a call isn't read that the kernel's format or C has
 unfoldable pub call_why : List ℕ → List ℕ
 call_why name =
@@ -199,11 +257,11 @@ call_why name =
     else if is_of_lock name then lock_why name
     else if begins name (codes "atomic_") then codes "note: of an atomic_t only some operations are read\n"
     else if begins name (codes "xchg_") || begins name (codes "cmpxchg_") then codes "note: it is read without an order in its name\n"
-    else if has_no_effect name then codes "note: it changes nothing here\n"
+    else if has_no_effect name then codes "note: it changes nothing here: leave it out\n"
     else if bytes_eq name (codes "smp_store_mb") then codes "note: `WRITE_ONCE` and `smp_mb` are read\n"
     else if is_of_number name then number_note
     else if is_jump name then jump_note
-    else []
+    else made_of_others name
 
 -- the line that says why a part of a text isn't read that the kernel's format has
 unfoldable pub section_why : List ℕ → List ℕ
@@ -214,7 +272,7 @@ section_why name =
 unfoldable pub loop_why : List ℕ → List ℕ
 loop_why word =
     if bytes_eq word (codes "while") || bytes_eq word (codes "do")
-    then codes "note: a wait has a number of tries: `for (i = 0; i < 3; i++) if (!r0) r0 = READ_ONCE(*x);`\n"
+    then wait_note
     else []
 
 -- a word of C

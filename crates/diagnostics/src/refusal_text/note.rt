@@ -38,6 +38,22 @@ fn star_note() -> &'static str
     "note: `*` stands before the variable, as in `int *x` and `READ_ONCE(*x)`\n"
 }
 
+/// That a wait ends.
+#[tactic(auto, unfolding(crate::specs::refusal_text::Notes::wait_note))]
+fn wait_note() -> &'static str
+    ensures { result.now ≡ spec.wait_note }
+{
+    "note: a wait has a number of tries: `for (i = 0; i < 3; i++) if (!r0) r0 = READ_ONCE(*x);`\n"
+}
+
+/// How a sequence count is written.
+#[tactic(auto, unfolding(crate::specs::refusal_text::Notes::sequence_note))]
+fn sequence_note() -> &'static str
+    ensures { result.now ≡ spec.sequence_note }
+{
+    "note: a sequence count is an `int`: `*seq += 1;` round the writes, `r0 = READ_ONCE(*seq);` round the reads\n"
+}
+
 /// A word that goes on elsewhere in a function of C.
 #[tactic(auto, unfolding(crate::specs::refusal_text::Notes::is_jump))]
 fn is_jump(word: &[u8]) -> bool
@@ -185,7 +201,7 @@ fn behind_number(token: &[u8]) -> &'static str
     ""
 }
 
-/// Behind a register that begins a statement: its assignment, or a label.
+/// Behind a register: its assignment, its value in the condition, or a label.
 #[tactic(auto, unfolding(crate::specs::refusal_text::Notes::register_note))]
 fn register_note(token: &[u8]) -> &'static str
     ensures { result.now ≡ spec.register_note token.now }
@@ -195,6 +211,9 @@ fn register_note(token: &[u8]) -> &'static str
     }
     if is_operator(token) || token == b"+=".as_slice() {
         return "note: a register is assigned by `=` alone, as `r0 = r0 | 1`\n";
+    }
+    if token == b"!=".as_slice() {
+        return "note: in the condition `~` stands before what isn't so, as `~0:r0=1`\n";
     }
     ""
 }
@@ -208,7 +227,7 @@ fn statement_note(token: &[u8]) -> &'static str
         return "note: for `-=` and `--` write `*x += -1`\n";
     }
     if is_operator(token) {
-        return "note: with an operator there is `+=` alone: write `r0 = *x | 1; *x = r0;`\n";
+        return "note: with an operator there is `+=` alone, which is one access as `|=` is; `r0 = *x | 1; *x = r0;` is two\n";
     }
     ""
 }
@@ -221,7 +240,7 @@ fn increment_note(token: &[u8]) -> &'static str
     if token == b"-".as_slice() {
         "note: for `-=` and `--` write `*x += -1`\n"
     } else {
-        "note: `(*x)++` alone has parentheses: write `*x = 1`\n"
+        "note: `(*x)++` alone has parentheses: write `*x = 1` or `*x += 1`\n"
     }
 }
 
@@ -263,6 +282,38 @@ fn starred_note(token: &[u8]) -> &'static str
     }
 }
 
+/// In the place of the type of a parameter.
+#[tactic(auto, unfolding(crate::specs::refusal_text::Notes::parameter_note))]
+fn parameter_note(token: &[u8]) -> &'static str
+    ensures { result.now ≡ spec.parameter_note token.now }
+{
+    if token == b"const".as_slice() {
+        return "note: leave out `const`\n";
+    }
+    if token == b"void".as_slice() {
+        return "note: a process without variables begins with `P0()`\n";
+    }
+    if token == b"raw_spinlock_t".as_slice() {
+        return "note: a lock is a `spinlock_t`\n";
+    }
+    if token.starts_with(b"seqcount_") || token == b"seqlock_t".as_slice() {
+        return sequence_note();
+    }
+    type_note(token)
+}
+
+/// In the place of a process.
+#[tactic(auto, unfolding(crate::specs::refusal_text::Notes::process_note))]
+fn process_note(token: &[u8]) -> &'static str
+    ensures { result.now ≡ spec.process_note token.now }
+{
+    if token == b"static".as_slice() || token == b"void".as_slice() || token == b"int".as_slice() {
+        "note: no word stands before `P0`\n"
+    } else {
+        ""
+    }
+}
+
 /// What to write where this is expected.
 #[tactic(auto, unfolding(crate::specs::refusal_text::Notes::place_note))]
 fn place_note(expected: Expected, token: &[u8]) -> &'static str
@@ -270,7 +321,8 @@ fn place_note(expected: Expected, token: &[u8]) -> &'static str
 {
     match expected {
         Expected::Number => number_note(),
-        Expected::Type => type_note(token),
+        Expected::Type => parameter_note(token),
+        Expected::Process | Expected::Condition => process_note(token),
         Expected::IntegerVariable
         | Expected::AtomicVariable
         | Expected::LockVariable
@@ -298,6 +350,9 @@ fn token_note(expected: Expected, token: &[u8], before: &[u8]) -> &'static str
     if token == b"++".as_slice() {
         return "note: write `(*x)++`, or `r0 = r0 + 1`\n";
     }
+    if token == b"true".as_slice() || token == b"false".as_slice() {
+        return "note: write 1 for `true`, and 0 for `false`\n";
+    }
     place_note(expected, token)
 }
 
@@ -308,6 +363,8 @@ fn fault_note(fault: Fault, expected: Expected, token: &[u8], before: &[u8]) -> 
 {
     match fault {
         Fault::Token => token_note(expected, token, before),
+        Fault::Variable => "note: its memory is read and written as `*x`, or by a call, as `WRITE_ONCE(*x, 1)`\n",
+        Fault::Unknown => "note: a process has its variables as parameters, as in `P0(int *x)`\n",
         _ => "",
     }
 }
@@ -328,7 +385,11 @@ fn is_of_rcu(name: &[u8]) -> bool
 fn is_of_lock(name: &[u8]) -> bool
     ensures { result ≡ spec.is_of_lock name.now }
 {
-    name.starts_with(b"spin_") || name.starts_with(b"raw_spin_") || name.starts_with(b"mutex_")
+    name.starts_with(b"spin_")
+        || name.starts_with(b"raw_spin_")
+        || name.starts_with(b"mutex_")
+        || name == b"guard".as_slice()
+        || name == b"scoped_guard".as_slice()
 }
 
 /// A call of a lock that also keeps interrupts off.
@@ -382,6 +443,59 @@ fn is_of_number(name: &[u8]) -> bool
         || name == b"sizeof".as_slice()
 }
 
+/// A call of a sequence count.
+#[tactic(auto, unfolding(crate::specs::refusal_text::Notes::is_of_sequence))]
+fn is_of_sequence(name: &[u8]) -> bool
+    ensures { result ≡ spec.is_of_sequence name.now }
+{
+    name.starts_with(b"read_seq")
+        || name.starts_with(b"write_seq")
+        || name.starts_with(b"raw_read_seq")
+        || name.starts_with(b"raw_write_seq")
+}
+
+/// A call that changes a bit of a word at once.
+#[tactic(auto, unfolding(crate::specs::refusal_text::Notes::changes_bit))]
+fn changes_bit(name: &[u8]) -> bool
+    ensures { result ≡ spec.changes_bit name.now }
+{
+    name == b"set_bit".as_slice()
+        || name == b"clear_bit".as_slice()
+        || name == b"change_bit".as_slice()
+        || name.starts_with(b"test_and_")
+}
+
+/// A call that stops the kernel, or warns, where something isn't so.
+#[tactic(auto, unfolding(crate::specs::refusal_text::Notes::asserts))]
+fn asserts(name: &[u8]) -> bool
+    ensures { result ≡ spec.asserts name.now }
+{
+    name.starts_with(b"BUG_ON") || name.starts_with(b"WARN_ON") || name == b"assert".as_slice()
+}
+
+/// The line on a call of the kernel that is made of accesses and calls that are read.
+#[tactic(auto, unfolding(crate::specs::refusal_text::Notes::made_of_others))]
+fn made_of_others(name: &[u8]) -> &'static str
+    ensures { result.now ≡ spec.made_of_others name.now }
+{
+    if is_of_sequence(name) {
+        return sequence_note();
+    }
+    if name == b"test_bit".as_slice() {
+        return "note: write `READ_ONCE(*x) & 2`\n";
+    }
+    if changes_bit(name) {
+        return "note: a bit is changed by `cmpxchg` of its word\n";
+    }
+    if name.starts_with(b"smp_cond_load_") {
+        return wait_note();
+    }
+    if asserts(name) {
+        return "note: what may come is asked by the condition, as `exists (1:r0=1)`\n";
+    }
+    ""
+}
+
 /// The line that says why a call isn't read that the kernel's format or C has.
 #[tactic(auto, unfolding(crate::specs::refusal_text::Notes::call_why))]
 fn call_why(name: &[u8]) -> &'static str
@@ -400,7 +514,7 @@ fn call_why(name: &[u8]) -> &'static str
         return "note: it is read without an order in its name\n";
     }
     if has_no_effect(name) {
-        return "note: it changes nothing here\n";
+        return "note: it changes nothing here: leave it out\n";
     }
     if name == b"smp_store_mb".as_slice() {
         return "note: `WRITE_ONCE` and `smp_mb` are read\n";
@@ -411,7 +525,7 @@ fn call_why(name: &[u8]) -> &'static str
     if is_jump(name) {
         return jump_note();
     }
-    ""
+    made_of_others(name)
 }
 
 /// The line that says why a part of a text isn't read that the kernel's format has.
@@ -432,7 +546,7 @@ fn loop_why(word: &[u8]) -> &'static str
     ensures { result.now ≡ spec.loop_why word.now }
 {
     if word == b"while".as_slice() || word == b"do".as_slice() {
-        "note: a wait has a number of tries: `for (i = 0; i < 3; i++) if (!r0) r0 = READ_ONCE(*x);`\n"
+        wait_note()
     } else {
         ""
     }
