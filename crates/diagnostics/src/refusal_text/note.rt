@@ -363,7 +363,8 @@ fn fault_note(fault: Fault, expected: Expected, token: &[u8], before: &[u8]) -> 
 {
     match fault {
         Fault::Token => token_note(expected, token, before),
-        Fault::Variable => "note: its memory is read and written as `*x`, or by a call, as `WRITE_ONCE(*x, 1)`\n",
+        Fault::Variable =>
+            "note: its memory is read and written as `*x`, or by a call, as `WRITE_ONCE(*x, 1)`\n",
         Fault::Unknown => "note: a process has its variables as parameters, as in `P0(int *x)`\n",
         _ => "",
     }
