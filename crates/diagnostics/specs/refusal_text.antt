@@ -3,5 +3,4 @@ pub mod Words
 pub mod Expected
 pub mod Excerpt
 pub mod Before
-pub mod Notes
 pub mod Message

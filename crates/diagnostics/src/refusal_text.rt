@@ -5,7 +5,6 @@ mod before;
 mod excerpt;
 mod expected;
 mod message;
-mod note;
 mod reason;
 mod token;
 

@@ -1,4 +1,5 @@
-//! What is said of a litmus text that is checked and not run: its tables and its printed form, or why it is refused.
+//! What is said of a litmus text that is checked and not run: its tables, its printed form and warnings, or why it is
+//! refused.
 
 mod call_list;
 mod checked;

@@ -1,7 +1,7 @@
 -- Files that are gone over one after the other, and what comes of them all.
 use Rattle.std.proofs.Common.{◌≡◌, ◌∙◌, ◌<◌, ◌+◌, ◌⊎◌, ◌++◌, ◌∷◌, [], ℕ, All, Bool, Err, IfNone, IfSome, List, None, Ok, OnErr, Option, Result, Some, Vec, ap, ap₂, arith}
-use Rattle.std.proofs.Common.{count_by, false, flat_map, fold, inl, inr, length, map, max, refl, subst, suc, sym, take, true}
-use Rattle.std.proofs.Common.{Bor, add-one, append-nil, cond, get_or, if◌then◌else◌, is_some, length-append, not, sum_by, zero}
+use Rattle.std.proofs.Common.{count_by, false, flat_map, fold, inl, length, map, max, refl, subst, suc, sym, take, true}
+use Rattle.std.proofs.Common.{◌==◌, Bor, add-one, append-nil, cond, get_or, if◌then◌else◌, is_some, length-append, not, sum_by, vec_len, zero}
 use Rattle.std.proofs.lemmas.Grind.{flat_map-append}
 use Rattle.std.proofs.Math.Seq.{take-suc}
 use Rattle.std.proofs.lemmas.List.{get_or-map, length-map, map-append}
@@ -14,7 +14,7 @@ use Rattle.diagnostics.specs.declared.check_output.file.Files.{Files}
 use Rattle.cli.specs.declared.request.CheckRequest.{CheckRequest}
 use Rattle.diagnostics.specs.check_output.Output.{IsMadeOf, last_line, unread_line}
 use Rattle.diagnostics.specs.declared.check_output.file.Comes.TheVariants as comes
-use Rattle.file_commands.specs.Check.{AreGoneOver, AreLeft, CheckAsksFor, GoesOver, IsGoneOver, IsLeftOver, IsListFault, IsSeveral, IsToldOf, IsToldOfLost}
+use Rattle.file_commands.specs.Check.{AreGoneOver, AreLeft, CheckAsksFor, GoesOver, IsGoneOver, IsLeftOver, IsListFault, IsSeveral, IsToldOf, IsToldOfLost, IsWarned}
 use Rattle.file_commands.specs.Check.{asked_of, list_complaint}
 use Rattle.file_commands.specs.Desks.{DeskState, once_told}
 use Rattle.file_commands.specs.StandardError.{heard}
@@ -24,7 +24,6 @@ use Rattle.litmus_syntax.specs.declared.error.ParseError.{ParseError}
 use Rattle.run_output.specs.declared.error.EngineError.TheVariants as engine
 use Rattle.diagnostics.specs.declared.text_check.checked.Check.{Check}
 use Rattle.file_commands.specs.Files.{FileEvent, noted}
-use Rattle.litmus_parse.specs.Text.{file_bytes}
 use Rattle.diagnostics.specs.declared.text_check.checked.Check.TheVariants.{Misplaced, Reads, Refused}
 use Rattle.file_commands.specs.declared.failure.Failure.{Failure}
 use Rattle.file_commands.specs.declared.complaint.Complaint.{Complaint}
@@ -67,11 +66,37 @@ lost_and_told before middle after said is written failures files =
     ∙ (ap (λ t. whole before.written before.failures before.files t middle.faults) (sym (ap (λ (at : DeskState). at.told) is))
     ∙ ap (λ n. whole before.written before.failures before.files after.told n) (sym (ap (λ (at : DeskState). at.faults) is))))))
 
+-- a text that has bytes isn't empty
+pub some_text : (text : Vec ℕ Global) (is : Bool) → is ≡ (vec_len text == 0) → is ≡ false → text.items ≡ [] → ⊥
+some_text text is told some empty =
+    let len = text.ok.0 in
+    let none : length text.items ≡ 0 = ap (λ (items : List ℕ). length items) empty in
+    let zero_len : vec_len text ≡ 0 = omega (arith, len, none) in
+    let no : false ≡ true = sym some ∙ (told ∙ ap (λ n. n == 0) zero_len) in
+    cc
+
+-- the warnings were told, since there are some
+pub warned_so : (warnings : Vec ℕ Global) (before after : Option (List Complaint)) → (warnings.items ≡ [] → ⊥)
+    → after ≡ heard before (complaint.Warned (record { bytes = warnings })) → IsWarned warnings.items before after
+warned_so warnings before after some told = by warnings.items refl where
+  by : (items : List ℕ) → warnings.items ≡ items → IsWarned items before after
+  by [] is = absurd (some is)
+  by (first ∷ more) is = (record { bytes = warnings }, is, told)
+
+-- what was told of a file that reads
+pub told_read : (files : Files) (name text : List ℕ) (check : Check) (line warnings : Vec ℕ Global) (before after : Option (List Complaint))
+    → IsMadeOf files name check (comes.Read line warnings) → IsWarned warnings.items before after
+    → IsToldOf files (Gave name text check) before after
+told_read files name text (Reads tables printed told) line warnings before after made warned =
+    subst (λ (v : Vec ℕ Global). IsWarned v.items before after) made.1 warned
+told_read files name text (Misplaced why) line warnings before after made warned = absurd made
+told_read files name text (Refused error why) line warnings before after made warned = absurd made
+
 -- what was told of a file that the places don't suit
 pub told_misplaced : (files : Files) (name text : List ℕ) (check : Check) (line : Vec ℕ Global) (before after : Option (List Complaint))
     → IsMadeOf files name check (comes.Misplaced line) → after ≡ heard before (complaint.Explained failure.BadPlace (record { bytes = line }))
     → IsToldOf files (Gave name text check) before after
-told_misplaced files name text (Reads tables printed) line before after made told = absurd made
+told_misplaced files name text (Reads tables printed warnings) line before after made told = absurd made
 told_misplaced files name text (Misplaced why) line before after made told =
     record { lines = record { bytes = line }; text_is = made; told = told }
 told_misplaced files name text (Refused error why) line before after made told = absurd made
@@ -81,7 +106,7 @@ pub told_refused : (files : Files) (name text : List ℕ) (check : Check) (error
     (before after : Option (List Complaint)) → IsMadeOf files name check (comes.Refused error lines)
     → after ≡ heard before (complaint.Explained (failure.Engine (engine.Text error)) (record { bytes = lines }))
     → IsToldOf files (Gave name text check) before after
-told_refused files name text (Reads tables printed) error lines before after made told = absurd made
+told_refused files name text (Reads tables printed warnings) error lines before after made told = absurd made
 told_refused files name text (Misplaced why) error lines before after made told = absurd made
 told_refused files name text (Refused other why) error lines before after made told = record {
   lines = record { bytes = lines };
@@ -100,18 +125,6 @@ list_fault error IsFault AllRead (Some line) said some found none is = record { 
 pub is_there : {X : Type 0} (it : Option X) (none : Bool) → is_some it ≡ not none → none ≡ false → (x : X) × (it ≡ Some x)
 is_there None none is there = absurd (let no : false ≡ true = is ∙ ap not there in cc)
 is_there (Some x) none is there = (x, refl)
-
--- a file that has tables was read, and nothing was told
-pub read_and_left : (files : Files) (several : Bool) (found : Diagnosis) (before after : DeskState) → has_tables found ≡ true
-    → IsGoneOver files found before after → IsLeftOver several before after
-read_and_left files several (Gave name text (Reads tables printed)) before after has gone = record {
-  files = inr (name, file_bytes, text, ap (λ (at : DeskState). at.files) gone.0);
-  faults = inl (ap (λ (at : DeskState). at.faults) gone.0);
-  rest = same_but_reads before after (ap (λ (at : DeskState). at.written) gone.0) (ap (λ (at : DeskState). at.failures) gone.0) gone.1;
-}
-read_and_left files several (Gave name text (Misplaced why)) before after has gone = absurd (cc)
-read_and_left files several (Gave name text (Refused error why)) before after has gone = absurd (cc)
-read_and_left files several (Lost name) before after has gone = absurd (cc)
 
 pub nothing_left : (several : Bool) (at : DeskState) → IsLeftOver several at at
 nothing_left several at = record { files = inl refl; faults = inl refl; rest = refl }
@@ -236,17 +249,10 @@ pub counts_none : (found : Diagnosis) → has_tables found ≡ false → count_b
 counts_none found has = ap (λ b. sum_by (λ (n : ℕ). n) (cond b 1 0 ∷ [])) has
 
 pub status_of_read : (found : Diagnosis) → has_tables found ≡ true → status_of_one found ≡ 0
-status_of_read (Gave name text (Reads tables printed)) has = refl
+status_of_read (Gave name text (Reads tables printed warnings)) has = refl
 status_of_read (Gave name text (Misplaced why)) has = absurd (cc)
 status_of_read (Gave name text (Refused error why)) has = absurd (cc)
 status_of_read (Lost name) has = absurd (cc)
-
--- nothing is printed of one that has none
-pub text_of_none : (files : Files) (found : Diagnosis) → has_tables found ≡ false → text_of files found ≡ []
-text_of_none files (Gave name text (Reads tables printed)) has = absurd (cc)
-text_of_none files (Gave name text (Misplaced why)) has = refl
-text_of_none files (Gave name text (Refused error why)) has = refl
-text_of_none files (Lost name) has = refl
 
 -- what is printed of all files: of several a last line stands behind
 pub output_of_several : (files : Files) (founds : List Diagnosis) (output : List ℕ) (read all : ℕ) → files.several ≡ true

@@ -70,7 +70,7 @@ unread_said asked settings name text check status why said before middle after s
 
     by : (check : Check) → IsCheckOf name text settings check → Some (status, why) ≡ refused_by check
         → IsToldOf (files_of asked) (Gave name text check) middle.told after.told → IsLookedAt asked settings name said before after
-    by (checks.Reads tables printed) is_check is told = absurd (cc)
+    by (checks.Reads tables printed warnings) is_check is told = absurd (cc)
     by (checks.Misplaced line) is_check is told =
         let both : (status, why) ≡ (64, refusals.BadPlace) = ap in_some is in
         let first : status ≡ 64 = ap (λ (it : ℕ × Refusal). it.0) both in
@@ -331,7 +331,7 @@ verdict_free verdicts.Missed none = absurd (omega (arith, none))
 verdict_free verdicts.Stopped none = absurd (omega (arith, none))
 
 passed_above : (why : Diagnosis) → has_tables why ≡ false → status_of_one why ≡ 0 → ⊥
-passed_above (Gave name text (checks.Reads tables printed)) has none = cc
+passed_above (Gave name text (checks.Reads tables printed warnings)) has none = cc
 passed_above (Gave name text (checks.Misplaced why)) has none = omega (arith, none)
 passed_above (Gave name text (checks.Refused error why)) has none = omega (arith, none)
 passed_above (Lost name) has none = omega (arith, none)
@@ -395,7 +395,7 @@ eqb_zero n is = elim (eqb_tells n 0) [
   | inr differs ↦ absurd (let no : true ≡ false = sym is ∙ differs.0 in cc)
 ]
 
--- a text is empty where it has no bytes, and else it isn't
+-- a text is empty where it has no bytes
 pub empty_text : (text : Vec ℕ Global) (is : Bool) → is ≡ (vec_len text == 0) → is ≡ true → text.items ≡ []
 empty_text text is told none =
     let len = text.ok.0 in
@@ -405,11 +405,3 @@ empty_text text is told none =
     no_items : (items : List ℕ) → length items ≡ 0 → items ≡ []
     no_items [] none = refl
     no_items (x ∷ xs) none = absurd (omega (arith, none))
-
-pub some_text : (text : Vec ℕ Global) (is : Bool) → is ≡ (vec_len text == 0) → is ≡ false → text.items ≡ [] → ⊥
-some_text text is told some empty =
-    let len = text.ok.0 in
-    let none : length text.items ≡ 0 = ap (λ (items : List ℕ). length items) empty in
-    let zero_len : vec_len text ≡ 0 = omega (arith, len, none) in
-    let no : false ≡ true = sym some ∙ (told ∙ ap (λ n. n == 0) zero_len) in
-    cc

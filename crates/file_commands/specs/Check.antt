@@ -1,7 +1,7 @@
 -- What `check` does with its files.
 use Rattle.std.specs.Global.{Global}
 use Rattle.std.specs.Prelude.{◌≡◌, ◌<◌, ◌⊎◌, ℕ, All, Bool, List, [], ◌∷◌, None, Option, Some, Vec, false, length, map, nat_lt, take, true}
-use Rattle.diagnostics.specs.check_output.Diagnosis.{Diagnosis, Gave, IsFound, Lost, greatest_status, has_tables, name_of, output_of, status_of_one, text_of}
+use Rattle.diagnostics.specs.check_output.Diagnosis.{Diagnosis, Gave, IsFound, Lost, greatest_status, has_tables, name_of, output_of, status_of_one}
 use Rattle.diagnostics.specs.check_output.Output.{misplaced_text, unread_line}
 use Rattle.diagnostics.specs.declared.check_output.file.Files.{Files}
 use Rattle.diagnostics.specs.declared.check_output.told.Lines.{Lines}
@@ -70,9 +70,15 @@ abbrev pub IsToldOfLost : (several : Bool) → (name : List ℕ) → (before aft
 IsToldOfLost true name before after = IsExplained failure.CannotRead (unread_line name) before after
 IsToldOfLost false name before after = after ≡ heard before (complaint.Failure failure.CannotRead)
 
--- what standard error was told of a file of which this was found: nothing where it reads
+-- standard error was told of these warnings, if there are any
+abbrev pub IsWarned : (warnings : List ℕ) → (before after : Option (List Complaint)) → Type 0
+IsWarned [] before after = after ≡ before
+IsWarned (first ∷ more) before after =
+    (lines : Lines) × (lines.bytes.items ≡ first ∷ more) × (after ≡ heard before (complaint.Warned lines))
+
+-- what standard error was told of a file of which this was found: of one that reads its warnings
 abbrev pub IsToldOf : Files → Diagnosis → (before after : Option (List Complaint)) → Type 0
-IsToldOf files (Gave name text (Reads tables printed)) before after = after ≡ before
+IsToldOf files (Gave name text (Reads tables printed warnings)) before after = IsWarned warnings.items before after
 IsToldOf files (Gave name text (Misplaced why)) before after =
     IsExplained failure.BadPlace (misplaced_text files name why.items) before after
 IsToldOf files (Gave name text (Refused error why)) before after =
@@ -95,9 +101,9 @@ AreGoneOver files (found ∷ more) before after =
     (middle : DeskState) × IsGoneOver files found before middle × AreGoneOver files more middle after
 
 -- what came of a file of which this was found
-abbrev pub IsEndOf : Files → Diagnosis → FileEnd → Type 0
-IsEndOf files found (ends.Read text) = (has_tables found ≡ true) × (text.items ≡ text_of files found)
-IsEndOf files found (ends.Told status) = (has_tables found ≡ false) × (status ≡ status_of_one found)
+abbrev pub IsEndOf : Diagnosis → FileEnd → Type 0
+IsEndOf found ends.Read = has_tables found ≡ true
+IsEndOf found (ends.Told status) = (has_tables found ≡ false) × (status ≡ status_of_one found)
 
 -- memory ran out over a file, and nothing was told: it may have been read, or, of several, its read may have failed
 pub record IsLeftOver (several : Bool) (before after : DeskState) : Type 0 where

@@ -189,13 +189,13 @@ refusal_in engine.SinkFailed = refusals.BadPlace
 
 -- why a text isn't read as a program
 abbrev pub refusal_by : Check → Refusal
-refusal_by (checks.Reads tables printed) = refusals.BadPlace
+refusal_by (checks.Reads tables printed warnings) = refusals.BadPlace
 refusal_by (checks.Misplaced why) = refusals.BadPlace
 refusal_by (checks.Refused error why) = refusals.Text error
 
 -- the status of a text that isn't read as a program, and why it isn't
 abbrev pub refused_by : Check → Option (ℕ × Refusal)
-refused_by (checks.Reads tables printed) = None
+refused_by (checks.Reads tables printed warnings) = None
 refused_by (checks.Misplaced why) = Some (64, refusals.BadPlace)
 refused_by (checks.Refused error why) = Some (65, refusals.Text error)
 

@@ -1,12 +1,12 @@
 //! The check of litmus files: nothing is run; what is said of each file is printed, or told.
 
-ghost use Rattle.std.specs.Prelude.{◌≡◌, ◌⊎◌, ◌≤◌, ℕ, List, Option, IfErr, IfOk, OnErr, false, true};
-ghost use Rattle.diagnostics.specs.check_output.Diagnosis.{Diagnosis, Gave, IsFound, Lost, name_of};
+ghost use Rattle.std.specs.Prelude.{◌≡◌, ◌⊎◌, ◌≤◌, ◌++◌, ℕ, List, Option, IfErr, IfOk, OnErr, OnOk, false, true};
+ghost use Rattle.diagnostics.specs.check_output.Diagnosis.{Diagnosis, Gave, IsFound, Lost, name_of, text_of};
 ghost use Rattle.diagnostics.specs.check_output.Output.{IsMadeOf};
 ghost use Rattle.diagnostics.specs.declared.check_output.file.Files.{Files};
 ghost use Rattle.cli.specs.Bounds.{KeepsCheckBounds};
 ghost use Rattle.file_commands.specs.Check as spec;
-ghost use Rattle.file_commands.specs.Check.{AreChecked, AreLeft, AreListsAtFault, CheckAsksFor, CheckEnds, IsEndOf, IsGoneOver, IsLeftOver, IsPrinted, IsToldOf};
+ghost use Rattle.file_commands.specs.Check.{AreChecked, AreLeft, AreListsAtFault, CheckAsksFor, CheckEnds, IsEndOf, IsGoneOver, IsLeftOver, IsPrinted, IsToldOf, IsWarned};
 ghost use Rattle.file_commands.specs.Check.{options_of};
 ghost use Rattle.file_commands.specs.Desks.{once_told};
 ghost use Rattle.file_commands.specs.Statuses.{complaint_status_of};
@@ -31,10 +31,10 @@ use run_output::EngineError;
 use std::alloc::{AllocError, Global};
 
 /// What came of a file.
-#[derive(Drop)]
+#[derive(Clone, Copy)]
 pub(crate) enum FileEnd {
-    /// It is read, and this is printed of it.
-    Read(Vec<u8>),
+    /// It is read, and was warned of where there is something to warn of.
+    Read,
     /// That it isn't was told, and comes with this status.
     Told(u8),
 }
@@ -104,16 +104,29 @@ pub fn tell<D: Desk>(complaint: Complaint, desk: &mut D) -> u8
     status
 }
 
-/// What came of a file that gave a text: where it isn't read, that is told.
+/// Tells standard error of the warnings on a file that is read, if there are any.
+fn warn<D: Desk>(warnings: Vec<u8>, desk: &mut D)
+    ensures told { IsWarned warnings.items (D.state desk.old).told (D.state desk.new).told }
+    ensures rest { D.state desk.new ≡ record (D.state desk.old) { told = (D.state desk.new).told } }
+{
+    if !warnings.is_empty() {
+        desk.complain(Complaint::Warned(Lines { bytes: warnings }));
+    }
+}
+
+/// What came of a file that gave a text: its warnings are told, or, where it isn't read, that is.
 pub(crate) fn tell_file<D: Desk>(comes: Comes, desk: &mut D) -> FileEnd
     ensures ends { (files : Files) (settings : Settings) (name text : List ℕ) (check : Check) → IsMadeOf files name check comes
-        → IsCheckOf name text settings check → IsEndOf files (Gave name text check) result }
+        → IsCheckOf name text settings check → IsEndOf (Gave name text check) result }
     ensures told { (files : Files) (name text : List ℕ) (check : Check) → IsMadeOf files name check comes
         → IsToldOf files (Gave name text check) (D.state desk.old).told (D.state desk.new).told }
     ensures rest { D.state desk.new ≡ record (D.state desk.old) { told = (D.state desk.new).told } }
 {
     match comes {
-        Comes::Read(text) => FileEnd::Read(text),
+        Comes::Read { warnings, .. } => {
+            warn(warnings, desk);
+            FileEnd::Read
+        }
         Comes::Misplaced(bytes) => {
             let complaint = Complaint::Explained(Failure::BadPlace, Lines { bytes });
             FileEnd::Told(tell(complaint, desk))
@@ -142,22 +155,38 @@ pub(crate) fn unread_complaint(
     Ok(Complaint::Explained(Failure::CannotRead, Lines { bytes }))
 }
 
-/// Checks a file: what is printed of it, or the status that it would have alone, once that was told.
+/// Adds what is printed of a file to the output.
+fn print_file(comes: &Comes, output: &mut Vec<u8>) -> Result<(), AllocError>
+    ensures { (files : Files) (name text : List ℕ) (check : Check) → IsMadeOf files name check comes.now
+        → OnOk result (output.new.items ≡ output.old.items ++ text_of files (Gave name text check)) }
+{
+    match comes {
+        Comes::Read { text, .. } => output.extend_from_slice(text),
+        Comes::Misplaced(_) | Comes::Refused(_, _) => Ok(()),
+    }
+}
+
+/// Checks a file: the status that it would have alone, once its warnings were told or that it isn't read, and the
+/// output with what is printed of it.
 fn check_file<D: Desk>(
     alloc: Global,
     files: Files,
     name: &str,
     settings: &Settings,
+    output: &mut Vec<u8>,
     desk: &mut D,
 ) -> Result<FileEnd, AllocError>
     requires { (3 ≤ settings.now.slots) × (settings.now.slots ≤ 1024) }
     ensures found { IfOk result (λ end. (found : Diagnosis) × (name_of found ≡ name.now) × IsFound settings.now found
-        × IsEndOf files found end × IsGoneOver files found (D.state desk.old) (D.state desk.new)) }
+        × IsEndOf found end × (output.new.items ≡ output.old.items ++ text_of files found)
+        × IsGoneOver files found (D.state desk.old) (D.state desk.new)) }
     ensures over { OnErr result (IsLeftOver files.several (D.state desk.old) (D.state desk.new)) }
 {
     match desk.read_file(alloc, name, FILE_BYTES) {
         Ok(text) => {
             let comes = file_comes(alloc, files, name, &text, settings)?;
+            // It is in the output before anything is told, so that no want of memory is told after its warnings.
+            print_file(&comes, output)?;
             Ok(tell_file(comes, desk))
         }
         Err(ReadFault::OutOfMemory) => Err(AllocError),
@@ -189,11 +218,8 @@ fn check_files<D: Desk>(
     let mut read = 0usize;
     let mut status = NO_REPORT;
     for name in &request.files {
-        match check_file(alloc, files, name, settings, desk)? {
-            FileEnd::Read(text) => {
-                output.extend_from_slice(&text)?;
-                read += 1;
-            }
+        match check_file(alloc, files, name, settings, &mut output, desk)? {
+            FileEnd::Read => read += 1,
             FileEnd::Told(own) => status = status.max(own),
         }
     }

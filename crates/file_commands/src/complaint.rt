@@ -5,12 +5,12 @@ ghost use Rattle.file_commands.specs.Statuses.{complaint_status_of};
 ghost use Rattle.file_commands.specs.declared.failure.Failure.TheVariants.{OutOfMemory};
 ghost use Rattle.file_commands.specs.declared.complaint.Complaint.TheVariants as complaints;
 
-use crate::failure::{Failure, USAGE};
+use crate::failure::{Failure, NO_REPORT, USAGE};
 use diagnostics::check_output::Lines;
 use std::alloc::AllocError;
 use thiserror::Error;
 
-/// Why the program doesn't do what it is asked. Its text goes to standard error.
+/// Why the program doesn't do what it is asked, or what it warns of. Its text goes to standard error.
 #[derive(Debug, Drop, Error)]
 pub enum Complaint {
     /// What is wrong with the words.
@@ -25,6 +25,9 @@ pub enum Complaint {
     /// What comes of a file would be written over it, as this line says.
     #[error("kcsan_litmus: {0}")]
     Overwrites(Lines),
+    /// The warnings on a file that is read, a line each.
+    #[error("{0}")]
+    Warned(Lines),
 }
 
 impl From<AllocError> for Complaint {
@@ -43,6 +46,7 @@ impl Complaint {
         match self {
             Complaint::Usage(_) | Complaint::Overwrites(_) => USAGE,
             Complaint::Failure(failure) | Complaint::Explained(failure, _) => failure.status(),
+            Complaint::Warned(_) => NO_REPORT,
         }
     }
 }

@@ -232,7 +232,7 @@ pub(crate) fn refused_by(comes: &Comes) -> Option<(u8, Refusal)>
         → result ≡ spec.refused_by check }
 {
     match comes {
-        Comes::Read(_) => None,
+        Comes::Read { .. } => None,
         Comes::Misplaced(_) => Some((64, Refusal::BadPlace)),
         Comes::Refused(error, _) => Some((65, Refusal::Text(*error))),
     }

@@ -1,10 +1,11 @@
 -- What a status says once a command has ended.
-use Rattle.std.proofs.Common.{◌≡◌, ◌≤◌, ◌⊎◌, ℕ, List, arith, false, inl, inr, refl, subst, true}
+use Rattle.std.proofs.Common.{◌≡◌, ◌≤◌, ◌⊎◌, ℕ, List, Option, arith, false, inl, inr, refl, subst, true}
 use Rattle.cli.specs.Bounds.{KeepsCheckBounds, KeepsRacesBounds}
 use Rattle.cli.specs.declared.request.CheckRequest.{CheckRequest}
 use Rattle.cli.specs.declared.request.RacesRequest.{RacesRequest}
 use Rattle.cli.specs.declared.request.SearchesRequest.{SearchesRequest}
 use Rattle.cli.specs.declared.request.Request.{Request}
+use Rattle.cli.specs.declared.request.Request.TheVariants as requests
 use Rattle.cli.specs.declared.request.Request.TheVariants.{Check, Races, Searches}
 use Rattle.litmus_command.proofs.EndLemmas.{check_reads, ends_otherwise, ends_unless_several, on_left, on_right}
 use Rattle.litmus_command.proofs.OverwriteLemmas.{kept_ends, kept_files, kept_otherwise, kept_reads, no_check, no_races, no_searches, same_path}
@@ -13,11 +14,12 @@ use Rattle.litmus_command.proofs.FilesEndLemmas.{files_read, races_end_unless_se
 use Rattle.file_commands.specs.Check.{CheckEnds}
 use Rattle.file_commands.specs.Desks.{DeskState, once_told}
 use Rattle.file_commands.specs.Statuses.{status_of}
-use Rattle.litmus_command.specs.Command.{IsDone, IsStopped, OutputState, state_in}
+use Rattle.litmus_command.specs.Command.{IsDone, IsStopped, OutputState, WarnsFirst, state_in}
 use Rattle.litmus_command.specs.Ends.{Fails, IsCarriedOut, IsDoneWith, IsNoCheck, Succeeds}
 use Rattle.litmus_command.specs.Overwrite.{IsKept, Overwrites}
 use Rattle.file_commands.specs.Races.{RacesEnds, SearchesEnd, asked_of_races, asked_of_search}
 use Rattle.file_commands.specs.declared.failure.Failure.{Failure}
+use Rattle.file_commands.specs.declared.complaint.Complaint.{Complaint}
 use Rattle.file_commands.specs.declared.complaint.Complaint.TheVariants as complaint
 
 -- what is done ends with one of three statuses
@@ -48,6 +50,18 @@ module _ (request : Request) (status : ℕ) (before after : OutputState) where
   is_known (inr (inl none)) = inl none.0
   is_known (inr (inr stops)) = inr (inr (inr (inr (inr (inr stops.0)))))
 
+-- whatever is asked, nothing may be told first
+warns_nothing : (request : Request) (status : ℕ) (told : Option (List Complaint)) → WarnsFirst request status told told
+warns_nothing (requests.Step request) status told = refl
+warns_nothing (requests.Run request) status told = refl
+warns_nothing (requests.Search request) status told = refl
+warns_nothing (requests.Searches request) status told = refl
+warns_nothing (requests.Races request) status told = refl
+warns_nothing (requests.Replay request) status told = refl
+warns_nothing (requests.Show request) status told = refl
+warns_nothing (requests.Check request) status told = inl refl
+warns_nothing requests.Calls status told = refl
+
 -- it was done
 pub carried_well : (request : Request) (status : ℕ) (before after : DeskState) → IsNoCheck request → Succeeds request status before after
     → IsCarriedOut request status before after
@@ -71,7 +85,11 @@ carried_well request status before after plain well =
       searches = plain.searches status before after;
       keeps = λ path over. absurd (plain.keeps path over);
       reads = inr (record { fails = λ is. absurd (no (omega (arith, is)) (omega (arith, is))); works = λ _. well.faults });
-      tells = inr (record { quiet = λ _. well.told; stopped = λ _. well.told; told = λ from to. absurd (no from to) });
+      tells = inr (
+        before.told,
+        warns_nothing request status before.told,
+        record { quiet = λ _. well.told; stopped = λ _. well.told; told = λ from to. absurd (no from to) },
+      );
       ends = inr (record {
         silent = λ from to. absurd (no from (omega (arith, to)));
         failed = λ is. absurd (no (omega (arith, is)) (omega (arith, is)));
@@ -101,7 +119,7 @@ carried_failure request failure before after plain fails =
       searches = plain.searches status before _;
       keeps = λ path over. absurd (plain.keeps path over);
       reads = inr fails.reads;
-      tells = inr (tells_so failure status before.told after.told known refl fails.told);
+      tells = inr (before.told, warns_nothing request status before.told, tells_so failure status before.told after.told known refl fails.told);
       ends = inr (record {
         silent = λ from to. fails.silent (λ is. omega (arith, is, to));
         failed = fails.failed;
@@ -154,9 +172,9 @@ carried_check request status before after bounds ends =
       races = tt;
       searches = tt;
       keeps = λ path over. absurd over;
-      reads = on_right (λ shown. shown.reads) alone;
-      tells = on_left inl (on_right (λ shown. shown.tells) alone);
-      ends = on_right (λ shown. shown.ends) alone;
+      reads = on_right (λ shown. shown.ends.reads) alone;
+      tells = on_left inl (on_right (λ shown. (shown.first, shown.warned, shown.ends.tells)) alone);
+      ends = on_right (λ shown. shown.ends.ends) alone;
     }
 
 -- the races of files were looked for
@@ -179,7 +197,7 @@ carried_races request status before after bounds ends =
       searches = tt;
       keeps = λ path over. absurd over;
       reads = on_right (λ shown. shown.reads) alone;
-      tells = on_left inl (on_right (λ shown. shown.tells) alone);
+      tells = on_left inl (on_right (λ shown. (before.told, refl, shown.tells)) alone);
       ends = on_right (λ shown. shown.ends) alone;
     }
 

@@ -4,12 +4,12 @@ use Rattle.std.proofs.Common.{if◌then◌else◌, nat_lt, refl, subst, sym, tru
 use Rattle.std.proofs.lemmas.Bool.{cases_lt}
 use Rattle.litmus_parse.specs.Text.{file_bytes}
 use Rattle.run_output.specs.declared.error.EngineError.TheVariants as engine
-use Rattle.diagnostics.specs.check_output.Diagnosis.{Diagnosis, Gave, IsFound, Lost, greatest_status, output_of, status_of_one}
+use Rattle.diagnostics.specs.check_output.Diagnosis.{Diagnosis, Gave, IsFound, Lost, greatest_status, has_tables, output_of, status_of_one}
 use Rattle.diagnostics.specs.declared.check_output.file.Files.{Files}
 use Rattle.cli.specs.Bounds.{KeepsCheckBounds}
 use Rattle.cli.specs.declared.request.CheckRequest.{CheckRequest}
 use Rattle.file_commands.specs.Check.{AreGoneOver, AreListsAtFault, CheckAsksFor, CheckEnds, Checked, Early, IsGoneOver, IsLeftOver, IsListFault, IsToldOfLost}
-use Rattle.file_commands.specs.Check.{IsPrinted, IsSeveral, Left, Unread, asked_of}
+use Rattle.file_commands.specs.Check.{IsPrinted, IsSeveral, IsWarned, Left, Unread, asked_of}
 use Rattle.file_commands.specs.Desks.{DeskState, once_told}
 use Rattle.file_commands.specs.Statuses.{complaint_status_of, status_of, text_status_of}
 use Rattle.litmus_command.specs.Command.{EndsAs, IsOfNoOverwrite, Reads, StatusComplaint, state_in}
@@ -30,6 +30,15 @@ pub record Ends (status : ℕ) (before after : DeskState) : Type 0 where
   pub tells : StatusComplaint status before.told after.told
   pub reads : Reads status before.faults after.faults
   pub ends : EndsAs status (state_in before) (state_in after)
+
+-- what can be said of the end of a check of one file, of which standard error was warned first, where it reads
+pub record EndsWarned (status : ℕ) (before after : DeskState) : Type 0 where
+  pub first : Option (List Complaint)
+  pub warned : (first ≡ before.told) ⊎ (((status ≡ 0) ⊎ (status ≡ 74)) × ((warnings : List ℕ) × IsWarned warnings before.told first))
+  pub ends : Ends status (record before { told = first }) after
+
+unwarned : (status : ℕ) (before after : DeskState) → Ends status before after → EndsWarned status before after
+unwarned status before after ends = record { first = before.told; warned = inl refl; ends = ends }
 
 nothing_more : (written : Option (List ℕ)) → appended written [] ≡ written
 nothing_more None = refl
@@ -156,26 +165,20 @@ told_one output status ends before middle after said few is plain empty told rea
 pub no_last_line : (several : Bool) (line : List ℕ) → several ≡ false → (if several then line else []) ≡ []
 no_last_line several line one = ap (λ (b : Bool). if b then line else []) one
 
--- the end of the check of one file, of which this was found
-pub one_found : (files : Files) (settings : Settings) (found : Diagnosis) (output : List ℕ) (status ends : ℕ) (before middle after : DeskState)
-    → files.several ≡ false → IsFound settings found → IsGoneOver files found before middle → output ≡ output_of files (found ∷ [])
-    → status ≡ greatest_status (found ∷ []) → IsPrinted output status ends middle after → Ends ends before after
-one_found files settings (Gave name text (checks.Reads tables printed)) output status ends before middle after one is_found gone output_is status_is (inl done) =
-    ends_well ends before after (done.0 ∙ status_is) (ap (λ (at : DeskState). at.told) done.1 ∙ gone.1)
-    (ap (λ (at : DeskState). at.faults) done.1 ∙ ap (λ (at : DeskState). at.faults) gone.0)
-one_found files settings (Gave name text (checks.Reads tables printed)) output status ends before middle after one is_found gone output_is status_is (inr fails) =
-    ends_cut ends before after (complaint.Failure failure.CannotWrite) fails.ends_is refl tt
-    (ap (λ (at : DeskState). at.told) fails.told ∙ ap (λ (t : Option (List Complaint)). heard t (complaint.Failure failure.CannotWrite)) gone.1)
-    (ap (λ (at : DeskState). at.faults) fails.told ∙ ap (λ (at : DeskState). at.faults) gone.0)
-    (subst (λ n. CountsFailure n after.failures) (ap (λ (at : DeskState). at.failures) gone.0) fails.failed)
-one_found files settings (Gave name text (checks.Misplaced why)) output status ends before middle after one is_found gone output_is status_is done =
+-- the end of the check of one file that has no tables, of which this was found
+pub one_passed : (files : Files) (settings : Settings) (found : Diagnosis) (output : List ℕ) (status ends : ℕ) (before middle after : DeskState)
+    → files.several ≡ false → has_tables found ≡ false → IsFound settings found → IsGoneOver files found before middle
+    → output ≡ output_of files (found ∷ []) → status ≡ greatest_status (found ∷ []) → IsPrinted output status ends middle after → Ends ends before after
+one_passed files settings (Gave name text (checks.Reads tables printed warnings)) output status ends before middle after one none is_found gone output_is status_is done =
+    absurd (cc)
+one_passed files settings (Gave name text (checks.Misplaced why)) output status ends before middle after one none is_found gone output_is status_is done =
     let said = complaint.Explained failure.BadPlace gone.1.lines in
     told_one output status ends before middle after said (inl status_is) (sym status_is) tt
     (output_is ∙ no_last_line files.several _ one) gone.1.told
     (reads_none status before.faults middle.faults (λ no. absurd (let is : 64 ≡ 66 = sym status_is ∙ no in omega (arith, is)))
     (ap (λ (at : DeskState). at.faults) gone.0))
     (ap (λ (at : DeskState). at.written) gone.0) (inr (name, file_bytes, text, ap (λ (at : DeskState). at.files) gone.0)) done
-one_found files settings (Gave name text (checks.Refused error why)) output status ends before middle after one is_found gone output_is status_is done =
+one_passed files settings (Gave name text (checks.Refused error why)) output status ends before middle after one none is_found gone output_is status_is done =
     let said = complaint.Explained (failure.Engine (engine.Text error)) gone.1.lines in
     told_one output status ends before middle after said (inr (inl status_is))
     (refused_status error is_found.1.no_want ∙ sym status_is) tt
@@ -183,18 +186,48 @@ one_found files settings (Gave name text (checks.Refused error why)) output stat
     (reads_none status before.faults middle.faults (λ no. absurd (let is : 65 ≡ 66 = sym status_is ∙ no in omega (arith, is)))
     (ap (λ (at : DeskState). at.faults) gone.0))
     (ap (λ (at : DeskState). at.written) gone.0) (inr (name, file_bytes, text, ap (λ (at : DeskState). at.files) gone.0)) done
-one_found files settings (Lost name) output status ends before middle after one is_found gone output_is status_is done =
+one_passed files settings (Lost name) output status ends before middle after one none is_found gone output_is status_is done =
     told_one output status ends before middle after (complaint.Failure failure.CannotRead) (inr (inr (inl status_is))) (sym status_is) tt
     (output_is ∙ no_last_line files.several _ one)
     (lost_alone files.several name before.told middle.told one gone.1.1)
     (record { fails = λ _. gone.1.0; works = λ other. absurd (other status_is) })
     (ap (λ (at : DeskState). at.written) gone.0) (inl (ap (λ (at : DeskState). at.files) gone.0)) done
 
+-- the end of the check of one file, of which this was found: one that reads was warned of first
+one_found : (files : Files) (settings : Settings) (found : Diagnosis) (output : List ℕ) (status ends : ℕ) (before middle after : DeskState)
+    → files.several ≡ false → IsFound settings found → IsGoneOver files found before middle → output ≡ output_of files (found ∷ [])
+    → status ≡ greatest_status (found ∷ []) → IsPrinted output status ends middle after → EndsWarned ends before after
+one_found files settings (Gave name text (checks.Reads tables printed warnings)) output status ends before middle after one is_found gone output_is status_is (inl done) =
+    let none : ends ≡ 0 = done.0 ∙ status_is in
+    record {
+      first = middle.told;
+      warned = inr (inl none, (warnings.items, gone.1));
+      ends = ends_well ends (record before { told = middle.told }) after none (ap (λ (at : DeskState). at.told) done.1)
+          (ap (λ (at : DeskState). at.faults) done.1 ∙ ap (λ (at : DeskState). at.faults) gone.0);
+    }
+one_found files settings (Gave name text (checks.Reads tables printed warnings)) output status ends before middle after one is_found gone output_is status_is (inr fails) = record {
+  first = middle.told;
+  warned = inr (inr fails.ends_is, (warnings.items, gone.1));
+  ends = ends_cut ends (record before { told = middle.told }) after (complaint.Failure failure.CannotWrite) fails.ends_is refl tt
+      (ap (λ (at : DeskState). at.told) fails.told)
+      (ap (λ (at : DeskState). at.faults) fails.told ∙ ap (λ (at : DeskState). at.faults) gone.0)
+      (subst (λ n. CountsFailure n after.failures) (ap (λ (at : DeskState). at.failures) gone.0) fails.failed);
+}
+one_found files settings (Gave name text (checks.Misplaced why)) output status ends before middle after one is_found gone output_is status_is done =
+    unwarned ends before after
+    (one_passed files settings (Gave name text (checks.Misplaced why)) output status ends before middle after one refl is_found gone output_is status_is done)
+one_found files settings (Gave name text (checks.Refused error why)) output status ends before middle after one is_found gone output_is status_is done =
+    unwarned ends before after
+    (one_passed files settings (Gave name text (checks.Refused error why)) output status ends before middle after one refl is_found gone output_is status_is done)
+one_found files settings (Lost name) output status ends before middle after one is_found gone output_is status_is done =
+    unwarned ends before after
+    (one_passed files settings (Lost name) output status ends before middle after one refl is_found gone output_is status_is done)
+
 -- all of one file were gone over
 one_checked : (request : CheckRequest) (founds : List Diagnosis) (settings : Settings) (output : List ℕ) (status ends : ℕ) (before middle after : DeskState)
     → length request.files.items ≡ 1 → length founds ≡ length request.files.items → All (IsFound settings) founds
     → AreGoneOver (asked_of request) founds before middle → output ≡ output_of (asked_of request) founds → status ≡ greatest_status founds
-    → IsPrinted output status ends middle after → Ends ends before after
+    → IsPrinted output status ends middle after → EndsWarned ends before after
 one_checked request [] settings output status ends before middle after one all are_found gone output_is status_is done =
     absurd (let no : 0 ≡ 1 = all ∙ one in omega (arith, no))
 one_checked request (found ∷ []) settings output status ends before middle after one all are_found gone output_is status_is done =
@@ -234,31 +267,31 @@ list_alone request said (inl schedule) = fault_alone _ failure.BadSchedule said 
 list_alone request said (inr place) = fault_alone _ failure.BadPlace said place.2
 
 -- how the check of one file ends
-pub one_ends : (request : CheckRequest) (status : ℕ) (before after : DeskState) → length request.files.items ≡ 1
-    → CheckEnds request status before after → Ends status before after
+one_ends : (request : CheckRequest) (status : ℕ) (before after : DeskState) → length request.files.items ≡ 1
+    → CheckEnds request status before after → EndsWarned status before after
 one_ends request status before after one (Checked it) =
     one_checked request it.checked.founds it.checked.goes.settings it.output it.status status before it.middle after one it.checked.all
     it.checked.goes.are_found it.checked.goes.gone_over it.checked.output_is it.checked.status_is it.printed
-one_ends request status before after one (Left it) =
-    one_left request it.left.founds status before it.left.middle it.middle after one it.left.left it.left.goes.gone_over it.left.over
-    it.status_is it.told
-one_ends request status before after one (Unread it) =
-    ends_told status before after it.said (inl it.status_is) (list_status request it.said it.at_fault ∙ sym it.status_is)
+one_ends request status before after one (Left it) = unwarned status before after
+    (one_left request it.left.founds status before it.left.middle it.middle after one it.left.left it.left.goes.gone_over it.left.over
+    it.status_is it.told)
+one_ends request status before after one (Unread it) = unwarned status before after
+    (ends_told status before after it.said (inl it.status_is) (list_status request it.said it.at_fault ∙ sym it.status_is)
     (list_alone request it.said it.at_fault)
     (ap (λ (at : DeskState). at.told) it.told)
     (reads_none status before.faults after.faults (λ no. absurd (let is = it.status_is in omega (arith, is, no)))
     (ap (λ (at : DeskState). at.faults) it.told))
-    (ap (λ (at : DeskState). at.written) it.told) (inl (ap (λ (at : DeskState). at.files) it.told))
-one_ends request status before after one (Early it) =
-    ends_told status before after (complaint.Failure failure.OutOfMemory) (inr (inr (inr it.status_is))) (sym it.status_is) tt
+    (ap (λ (at : DeskState). at.written) it.told) (inl (ap (λ (at : DeskState). at.files) it.told)))
+one_ends request status before after one (Early it) = unwarned status before after
+    (ends_told status before after (complaint.Failure failure.OutOfMemory) (inr (inr (inr it.status_is))) (sym it.status_is) tt
     (ap (λ (at : DeskState). at.told) it.told)
     (reads_none status before.faults after.faults (λ no. absurd (let is = it.status_is in omega (arith, is, no)))
     (ap (λ (at : DeskState). at.faults) it.told))
-    (ap (λ (at : DeskState). at.written) it.told) (inl (ap (λ (at : DeskState). at.files) it.told))
+    (ap (λ (at : DeskState). at.written) it.told) (inl (ap (λ (at : DeskState). at.files) it.told)))
 
 -- there are several files, or the check ends as that of one
 pub ends_unless_several : (request : CheckRequest) (status : ℕ) (before after : DeskState) → KeepsCheckBounds request
-    → CheckEnds request status before after → IsSeveral request ⊎ Ends status before after
+    → CheckEnds request status before after → IsSeveral request ⊎ EndsWarned status before after
 ends_unless_several request status before after bounds ends =
     let some = bounds.some in
     elim (cases_lt 1 (length request.files.items)) [
@@ -271,7 +304,7 @@ abbrev IsOfFiles : ℕ → Type 0
 IsOfFiles status = (status ≡ 0) ⊎ ((64 ≤ status) × (status ≤ 66))
 
 one_of_files : (found : Diagnosis) → IsOfFiles (status_of_one found)
-one_of_files (Gave name text (checks.Reads tables printed)) = inl refl
+one_of_files (Gave name text (checks.Reads tables printed warnings)) = inl refl
 one_of_files (Gave name text (checks.Misplaced why)) = inr (omega arith, omega arith)
 one_of_files (Gave name text (checks.Refused error why)) = inr (omega arith, omega arith)
 one_of_files (Lost name) = inr (omega arith, omega arith)

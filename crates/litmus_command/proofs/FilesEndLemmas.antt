@@ -7,7 +7,7 @@ use Rattle.cli.specs.declared.request.RacesRequest.{RacesRequest}
 use Rattle.diagnostics.specs.check_output.Diagnosis.{Diagnosis, Gave, Lost, has_tables, output_of}
 use Rattle.diagnostics.specs.declared.check_output.file.Files.{Files}
 use Rattle.diagnostics.specs.declared.text_check.checked.Check.TheVariants as checks
-use Rattle.litmus_command.proofs.EndLemmas.{Ends, IsTold, ends_cut, ends_told, faults_alone, no_last_line, one_found, reads_none, told_one}
+use Rattle.litmus_command.proofs.EndLemmas.{Ends, IsTold, ends_cut, ends_told, faults_alone, no_last_line, one_passed, reads_none, told_one}
 use Rattle.file_commands.specs.Check.{IsLeftOver, IsPrinted}
 use Rattle.file_commands.specs.Desks.{DeskState, once_told}
 use Rattle.file_commands.specs.Files.{FileEvent, OnlyRead}
@@ -122,7 +122,7 @@ not_unread status told text settings engine.SinkFailed refused is unread = absur
 
 -- of one file that is passed over nothing is printed
 none_printed : (files : Files) (why : Diagnosis) → has_tables why ≡ false → files.several ≡ false → output_of files (why ∷ []) ≡ []
-none_printed files (Gave name text (checks.Reads tables printed)) has one = absurd (cc)
+none_printed files (Gave name text (checks.Reads tables printed warnings)) has one = absurd (cc)
 none_printed files (Gave name text (checks.Misplaced why)) has one = no_last_line files.several _ one
 none_printed files (Gave name text (checks.Refused error why)) has one = no_last_line files.several _ one
 none_printed files (Lost name) has one = no_last_line files.several _ one
@@ -156,7 +156,7 @@ one_looked_into files request settings (Refused name text error) printed status 
     (ap (λ (at : DeskState). at.faults) gone))
     (ap (λ (at : DeskState). at.written) gone) (inr (name, file_bytes, text, ap (λ (at : DeskState). at.files) gone)) done
 one_looked_into files request settings (PassedOver why) printed status ends before middle after one is_found gone output_is status_is done =
-    one_found files settings why printed status ends before middle after one is_found.0 gone.1
+    one_passed files settings why printed status ends before middle after one is_found.1 is_found.0 gone.1
     (output_is ∙ sym (none_printed files why is_found.1 one)) status_is done
 
 -- one file alone has no name over it

@@ -41,7 +41,7 @@ use Rattle.trace_replay.specs.Answer as answers
 use Rattle.trace_replay.specs.declared.accepted.TraceError.{TraceError}
 use Rattle.diagnostics.specs.text_check.Calls.{calls_text}
 use Rattle.file_commands.specs.Additions.{HasAdditions}
-use Rattle.file_commands.specs.Check.{CheckAsksFor, CheckEnds, IsOutOfMemory, IsSeveral}
+use Rattle.file_commands.specs.Check.{CheckAsksFor, CheckEnds, IsOutOfMemory, IsSeveral, IsWarned}
 use Rattle.file_commands.specs.Desks.{DeskState}
 use Rattle.file_commands.specs.declared.additions.Additions.{Additions}
 use Rattle.litmus_command.specs.Engine.{IsRefused, TextLeaves}
@@ -469,6 +469,7 @@ IsOfNoOverwrite (complaint.Usage error) = Unit {0}
 IsOfNoOverwrite (complaint.Failure error) = Unit {0}
 IsOfNoOverwrite (complaint.Explained error lines) = Unit {0}
 IsOfNoOverwrite (complaint.Overwrites lines) = ⊥
+IsOfNoOverwrite (complaint.Warned lines) = Unit {0}
 
 -- standard error was told nothing below 64 and at 75, and from 64 to 74 one thing, which comes with this status, and
 -- isn't that a file would be overwritten
@@ -477,6 +478,25 @@ pub record StatusComplaint (status : ℕ) (before after : Option (List Complaint
   pub stopped : status ≡ 75 → after ≡ before
   pub told : 64 ≤ status → status ≤ 74 → (said : Complaint) × (complaint_status_of said ≡ status) × IsOfNoOverwrite said
       × (after ≡ heard before said)
+
+-- what standard error was told first of what is asked, which ends with this status: of a check, whose file reads, its
+-- warnings, and else nothing
+abbrev pub WarnsFirst : Request → (status : ℕ) → (before first : Option (List Complaint)) → Type 0
+WarnsFirst (requests.Step request) status before first = first ≡ before
+WarnsFirst (requests.Run request) status before first = first ≡ before
+WarnsFirst (requests.Search request) status before first = first ≡ before
+WarnsFirst (requests.Searches request) status before first = first ≡ before
+WarnsFirst (requests.Races request) status before first = first ≡ before
+WarnsFirst (requests.Replay request) status before first = first ≡ before
+WarnsFirst (requests.Show request) status before first = first ≡ before
+WarnsFirst (requests.Check request) status before first =
+    (first ≡ before) ⊎ (((status ≡ 0) ⊎ (status ≡ 74)) × ((warnings : List ℕ) × IsWarned warnings before first))
+WarnsFirst requests.Calls status before first = first ≡ before
+
+-- what standard error was told of what is asked: that first, and then what comes with this status
+abbrev pub IsToldWith : Request → (status : ℕ) → (before after : Option (List Complaint)) → Type 0
+IsToldWith request status before after =
+    (first : Option (List Complaint)) × WarnsFirst request status before first × StatusComplaint status first after
 
 -- an error of the words themselves: neither want of memory nor help nor the version
 abbrev pub IsFault : ErrorKind → Type 0

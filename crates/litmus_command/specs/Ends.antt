@@ -4,7 +4,7 @@ use Rattle.cli.specs.declared.request.Request.{Request}
 use Rattle.file_commands.specs.Desks.{DeskState}
 use Rattle.file_commands.specs.Statuses.{status_of}
 use Rattle.litmus_command.specs.Command.{AreFilesSearched, AreRaced, DoesRead, EndsAs, IsChecked, IsCut, IsDone, IsMisused, IsOfFile, IsOfSeveral, IsRefusedOf, IsStopped}
-use Rattle.litmus_command.specs.Command.{IsToldApart, NothingIsWritten, Reads, OutputState, StatusComplaint, state_in}
+use Rattle.litmus_command.specs.Command.{IsToldApart, IsToldWith, NothingIsWritten, Reads, OutputState, state_in}
 use Rattle.litmus_command.specs.Overwrite.{IsKept, Overwrites}
 use Rattle.file_commands.specs.declared.failure.Failure.{Failure}
 use Rattle.report_text.specs.Sink.{CountsFailure}
@@ -60,5 +60,5 @@ pub record IsCarriedOut (request : Request) (status : ℕ) (before after : DeskS
   pub searches : AreFilesSearched request status before after
   pub keeps : (path : List ℕ) → Overwrites request path → IsKept path status before after
   pub reads : IsOfSeveral request ⊎ Reads status before.faults after.faults
-  pub tells : IsToldApart request ⊎ StatusComplaint status before.told after.told
+  pub tells : IsToldApart request ⊎ IsToldWith request status before.told after.told
   pub ends : IsOfSeveral request ⊎ EndsAs status (state_in before) (state_in after)

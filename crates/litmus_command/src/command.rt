@@ -9,7 +9,7 @@ ghost use Rattle.file_commands.specs.Check.{IsOutOfMemory};
 ghost use Rattle.file_commands.specs.Desks.{DeskState, once_told};
 ghost use Rattle.file_commands.specs.Statuses.{status_of};
 ghost use Rattle.litmus_command.specs.Command.{AskForOne, AsksFor, EndsAs, HelpIsCut, HelpIsGiven, IsCut, IsDone, IsGiven, IsGivenInPart};
-ghost use Rattle.litmus_command.specs.Command.{AreFilesSearched, AreRaced, IsChecked, IsOfFile, IsOfSeveral, IsRefusedOf, IsStopped, IsToldApart, OfAsked};
+ghost use Rattle.litmus_command.specs.Command.{AreFilesSearched, AreRaced, IsChecked, IsOfFile, IsOfSeveral, IsRefusedOf, IsStopped, IsToldApart, IsToldWith, OfAsked};
 ghost use Rattle.litmus_command.specs.Command.{DoesNotRead, DoesRead, IsFault, IsMisused, Reads, StatusComplaint, UsageIsTold, VersionIsCut, VersionIsGiven};
 ghost use Rattle.litmus_command.specs.Command.{end_status_of, state_in};
 ghost use Rattle.litmus_command.specs.Command.{run_additions_of, search_additions_of, times_of, with_trace};
@@ -112,9 +112,11 @@ pub fn command<R: Threads + Wait + Sync, S: AsStr, D: Desk + Sync>(
         (D.state desk.old) (D.state desk.new)) }
 
     // Only of several files, or where programs are to read what is found, more was read and told, and something printed
-    // with a status from 64 to 66.
+    // with a status from 64 to 66. Of the one file of a check its warnings were told first.
     ensures reads { AskForOne (map S.text words.now) IsOfSeveral ⊎ Reads result (D.state desk.old).faults (D.state desk.new).faults }
-    ensures tells { AskForOne (map S.text words.now) IsToldApart ⊎ StatusComplaint result (D.state desk.old).told (D.state desk.new).told }
+    ensures tells { AskForOne (map S.text words.now) (λ request.
+        IsToldApart request ⊎ IsToldWith request result (D.state desk.old).told (D.state desk.new).told)
+        ⊎ StatusComplaint result (D.state desk.old).told (D.state desk.new).told }
     ensures ends { AskForOne (map S.text words.now) IsOfSeveral ⊎ EndsAs result (state_in (D.state desk.old))
         (state_in (D.state desk.new)) }
 {

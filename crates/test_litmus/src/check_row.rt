@@ -15,6 +15,8 @@ use watch_word::Layout;
 enum Kind {
     /// A litmus text, under watch words of this layout.
     Text(Layout),
+    /// The warnings on a litmus text.
+    Warnings,
     /// What is said of a place list.
     Places,
     /// What is said of a schedule.
@@ -36,8 +38,9 @@ pub struct Row {
 }
 
 impl Row {
-    /// The row of a line: the bits of a watch word, `places`, `schedule`, `places_read` or `entries_read`; the number
-    /// of page slots, or of tasks for `entries_read`; a place list or `-`; a text, `=>`, and what is said of it.
+    /// The row of a line: the bits of a watch word, `warnings`, `places`, `schedule`, `places_read` or `entries_read`;
+    /// the number of page slots, or of tasks for `entries_read`; a place list or `-`; a text, `=>`, and what is said of
+    /// it.
     pub fn read(alloc: Global, line: &str) -> Result<Option<Row>, AllocError> {
         let Some((word, rest)) = line.split_once(' ') else {
             return Ok(None);
@@ -55,6 +58,7 @@ impl Row {
         let kind = match word {
             "32" => Kind::Text(Layout::W32),
             "64" => Kind::Text(Layout::W64),
+            "warnings" => Kind::Warnings,
             "places" => Kind::Places,
             "schedule" => Kind::Schedule,
             "places_read" => Kind::PlacesRead,
@@ -136,11 +140,29 @@ fn entries_read(alloc: Global, text: &str, tasks: u64) -> Result<String, AllocEr
 pub fn outcome(alloc: Global, row: &Row) -> Result<String, AllocError> {
     match row.kind {
         Kind::Text(layout) => check_of(alloc, row, layout),
+        Kind::Warnings => warnings_of(alloc, row),
         Kind::Places => fault_of(alloc, place_fault(alloc, &row.text)?),
         Kind::Schedule => fault_of(alloc, schedule_fault(alloc, &row.text)?),
         Kind::PlacesRead => places_read(alloc, &row.text),
         Kind::EntriesRead(tasks) => entries_read(alloc, &row.text, tasks),
     }
+}
+
+/// The warnings on a row's text.
+fn warnings_of(alloc: Global, row: &Row) -> Result<String, AllocError> {
+    let settings = settings(row, Layout::W64, Vec::new(alloc));
+    let check = match check_text(alloc, b"t.litmus", row.text.as_bytes(), &settings) {
+        Ok(check) => check,
+        Err(RunError::OutOfMemory) => return Err(AllocError),
+        Err(error) => return format!(in alloc; "{error}"),
+    };
+    let Check::Reads { warnings, .. } = check else {
+        return String::from_str(alloc, "no program");
+    };
+    if warnings.is_empty() {
+        return String::from_str(alloc, "no warning");
+    }
+    text_of(alloc, &warnings)
 }
 
 /// What is said of the check of a row's text, or the calls that are read, where it is `--calls`.
@@ -153,9 +175,16 @@ fn check_of(alloc: Global, row: &Row, layout: Layout) -> Result<String, AllocErr
     };
     let settings = settings(row, layout, places);
     match check_text(alloc, b"t.litmus", row.text.as_bytes(), &settings) {
-        Ok(Check::Reads { tables, printed }) => {
+        Ok(
+            Check::Reads {
+                tables,
+                printed,
+                warnings,
+            },
+        ) => {
             let tables = text_of(alloc, &tables)?;
-            format!(in alloc; "{tables}\n{printed}")
+            let warnings = text_of(alloc, &warnings)?;
+            format!(in alloc; "{tables}\n{printed}{warnings}")
         }
         Ok(Check::Misplaced { why }) => {
             let why = text_of(alloc, &why)?;

@@ -13,14 +13,14 @@ use Rattle.diagnostics.specs.declared.text_check.checked.Check.{Check}
 use Rattle.diagnostics.specs.declared.text_check.checked.Check.TheVariants.{Misplaced, Reads, Refused}
 
 module _ (name text : List ℕ) (settings : Settings) where
-  of_told : (program : Program) (check : Check) → IsReadAs text program → IsToldOf text settings program check
+  of_told : (program : Program) (check : Check) → IsReadAs text program → IsToldOf name text settings program check
       → IsCheckOf name text settings check
-  of_told program (Reads tables printed) read told = (program, read, told)
+  of_told program (Reads tables printed warnings) read told = (program, read, told)
   of_told program (Misplaced why) read told = (program, read, told)
   of_told program (Refused error why) read told = absurd told
 
   pub told_check : (program : Program) (result : Result Check RunError) → IsReadAs text program
-      → IfOk result (IsToldOf text settings program) → IfOk result (IsCheckOf name text settings)
+      → IfOk result (IsToldOf name text settings program) → IfOk result (IsCheckOf name text settings)
   told_check program (Ok check) read told = of_told program check read told
   told_check program (Err error) read told = tt
 
@@ -36,7 +36,7 @@ module _ (name text : List ℕ) (settings : Settings) where
     (λ program spelled. refusal.1.no_want (complete program spelled)),
     subst (λ (e : ParseError). IsSaidOf name text e why.items) (sym refusal.0) refusal.1,
   )
-  of_refusal error (Reads tables printed) complete refusal = absurd refusal
+  of_refusal error (Reads tables printed warnings) complete refusal = absurd refusal
   of_refusal error (Misplaced why) complete refusal = absurd refusal
 
   pub refusal_check : (error : ParseError) (result : Result Check RunError)

@@ -25,14 +25,14 @@ IsFound settings (Lost name) = Unit {0}
 
 -- it is read, and has tables
 abbrev pub has_tables : Diagnosis → Bool
-has_tables (Gave name text (Reads tables printed)) = true
+has_tables (Gave name text (Reads tables printed warnings)) = true
 has_tables (Gave name text (Misplaced why)) = false
 has_tables (Gave name text (Refused error why)) = false
 has_tables (Lost name) = false
 
 -- what is printed of it: nothing where it has no tables
 abbrev pub text_of : Files → Diagnosis → List ℕ
-text_of files (Gave name text (Reads tables printed)) = read_text files name tables.items (string_bytes printed)
+text_of files (Gave name text (Reads tables printed warnings)) = read_text files name tables.items (string_bytes printed)
 text_of files (Gave name text (Misplaced why)) = []
 text_of files (Gave name text (Refused error why)) = []
 text_of files (Lost name) = []
@@ -44,7 +44,7 @@ output_of files founds =
 
 -- the status that a file alone ends with
 abbrev pub status_of_one : Diagnosis → ℕ
-status_of_one (Gave name text (Reads tables printed)) = 0
+status_of_one (Gave name text (Reads tables printed warnings)) = 0
 status_of_one (Gave name text (Misplaced why)) = 64
 status_of_one (Gave name text (Refused error why)) = 65
 status_of_one (Lost name) = 66

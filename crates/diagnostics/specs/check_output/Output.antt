@@ -34,7 +34,8 @@ last_line read all = concat (decimal read ∷ codes " of " ∷ decimal all ∷ c
 
 -- this comes of a file of a name whose text was checked so
 abbrev pub IsMadeOf : Files → (name : List ℕ) → Check → Comes → Type 0
-IsMadeOf files name (Reads tables printed) (comes.Read text) = text.items ≡ read_text files name tables.items (string_bytes printed)
+IsMadeOf files name (Reads tables printed warnings) (comes.Read text told) =
+    (text.items ≡ read_text files name tables.items (string_bytes printed)) × (told ≡ warnings)
 IsMadeOf files name (Misplaced why) (comes.Misplaced line) = line.items ≡ misplaced_text files name why.items
 IsMadeOf files name (Refused error why) (comes.Refused other lines) = (other ≡ error) × (lines ≡ why)
 IsMadeOf files name check made = ⊥

@@ -9,7 +9,7 @@ use Rattle.litmus_parse.specs.declared.answer.Reason.TheVariants as reasons
 use Rattle.diagnostics.specs.refusal_text.Before.{word_before}
 use Rattle.diagnostics.specs.refusal_text.Excerpt.{excerpt}
 use Rattle.diagnostics.specs.refusal_text.Expected.{expected_text}
-use Rattle.diagnostics.specs.refusal_text.Notes.{note_of}
+use Rattle.check_notes.specs.Notes.{note_of}
 use Rattle.program_table.specs.text_pieces.Shown.{shown}
 use Rattle.diagnostics.specs.refusal_text.Token.{IsTokenAt}
 use Rattle.diagnostics.specs.refusal_text.Words.{behind, excess_words, fault_words, more_than, unread_words}

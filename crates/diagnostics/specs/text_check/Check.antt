@@ -23,6 +23,7 @@ use Rattle.prepared_program.specs.declared.program_sites.settings.Settings.{Sett
 use Rattle.program_table.specs.Table.{program_table}
 use Rattle.program_table.specs.Words.{AreWords}
 use Rattle.diagnostics.specs.refusal_text.Message.{IsRefusalText}
+use Rattle.check_notes.specs.Warnings.{AreWarningsOf}
 use Rattle.diagnostics.specs.declared.text_check.checked.Check.{Check}
 use Rattle.diagnostics.specs.declared.text_check.checked.Check.TheVariants.{Misplaced, Reads, Refused}
 
@@ -36,13 +37,14 @@ pub record AreTablesOf (text : List ℕ) (settings : Settings) (program : Progra
   pub places : List (List ℕ)
   pub is : tables ≡ program_table text places words.of program settings prepared
 
--- what is told of a program that a text spells: its tables and its printed form, or which place doesn't suit its
--- variables
-abbrev pub IsToldOf : (text : List ℕ) → Settings → Program → Check → Type 0
-IsToldOf text settings program (Reads tables printed) =
+-- what is told of a program that a text spells, in a file of this name: its tables, its printed form and its warnings,
+-- or which place doesn't suit its variables
+abbrev pub IsToldOf : (name text : List ℕ) → Settings → Program → Check → Type 0
+IsToldOf name text settings program (Reads tables printed warnings) =
     AreTablesOf text settings program tables.items × (string_bytes printed ≡ form.printed (program_of program))
-IsToldOf text settings program (Misplaced why) = IsMisfit program.variables settings.places.items why.items
-IsToldOf text settings program (Refused error why) = ⊥
+    × AreWarningsOf name text (program_of program) warnings.items
+IsToldOf name text settings program (Misplaced why) = IsMisfit program.variables settings.places.items why.items
+IsToldOf name text settings program (Refused error why) = ⊥
 
 -- What is said of a text that is refused with an error: where and for which reason, and the error is that of this place
 -- and this reason. A text that is too large is refused behind its last byte that there may be, and one with other bytes
@@ -62,7 +64,7 @@ pub record IsSaidOf (name text : List ℕ) (error : ParseError) (why : List ℕ)
 -- the text is refused with this error
 abbrev pub IsRefusalOf : (name text : List ℕ) → ParseError → Check → Type 0
 IsRefusalOf name text error (Refused said why) = (said ≡ error) × IsSaidOf name text error why.items
-IsRefusalOf name text error (Reads tables printed) = ⊥
+IsRefusalOf name text error (Reads tables printed warnings) = ⊥
 IsRefusalOf name text error (Misplaced why) = ⊥
 
 -- no program is spelled
@@ -72,10 +74,10 @@ SpellsNothing text = (program : tree.Program) → SpellsProgram text program →
 -- what comes of the check of a text, in a file of this name: what is told of the program that it is read as, or why it
 -- is refused
 abbrev pub IsCheckOf : (name text : List ℕ) → Settings → Check → Type 0
-IsCheckOf name text settings (Reads tables printed) =
-    (program : Program) × IsReadAs text program × IsToldOf text settings program (Reads tables printed)
+IsCheckOf name text settings (Reads tables printed warnings) =
+    (program : Program) × IsReadAs text program × IsToldOf name text settings program (Reads tables printed warnings)
 IsCheckOf name text settings (Misplaced why) =
-    (program : Program) × IsReadAs text program × IsToldOf text settings program (Misplaced why)
+    (program : Program) × IsReadAs text program × IsToldOf name text settings program (Misplaced why)
 IsCheckOf name text settings (Refused error why) = SpellsNothing text × IsSaidOf name text error why.items
 
 -- why nothing comes of a program: want of memory, or too few slots or too many

@@ -25,8 +25,9 @@ pub struct Files {
 /// What comes of a file that gave a text.
 #[derive(Drop)]
 pub enum Comes {
-    /// It is read: its tables, and its printed form, where that is wanted.
-    Read(Vec<u8>),
+    /// It is read: this is printed of it, its tables and, where that is wanted, its printed form; and these are the
+    /// lines of its warnings.
+    Read { text: Vec<u8>, warnings: Vec<u8> },
     /// The places don't suit it: which one.
     Misplaced(Vec<u8>),
     /// It is refused: where and why.
@@ -91,9 +92,13 @@ fn made_of(alloc: Global, files: Files, name: &str, check: Check) -> Result<Come
     ensures { IfOk result (IsMadeOf files name.now check) }
 {
     match check {
-        Check::Reads { tables, printed } => {
+        Check::Reads {
+            tables,
+            printed,
+            warnings,
+        } => {
             let text = read_text(alloc, files, name, &tables, printed.as_str())?;
-            Ok(Comes::Read(text))
+            Ok(Comes::Read { text, warnings })
         }
         Check::Misplaced { why } => {
             let line = misplaced_text(alloc, files, name, &why)?;

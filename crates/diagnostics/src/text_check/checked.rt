@@ -12,6 +12,7 @@ ghost use Rattle.diagnostics.specs.text_check.Check.{IsCheckOf, IsToldOf, IsRefu
 
 use crate::option_diagnostics::misfit;
 use crate::refusal_text::refusal_text;
+use check_notes::text_warnings;
 use litmus_parse::{Limit, ParseError, Program, Reading, Reason, Refused, print, read_text};
 use prepared_program::program_sites::{Prepared, RunError, Settings};
 use program_table::program_table;
@@ -20,17 +21,27 @@ use std::alloc::{AllocError, Global};
 /// What comes of the check of a text.
 #[derive(Drop)]
 pub enum Check {
-    /// It reads: the tables of its program, and its printed form.
-    Reads { tables: Vec<u8>, printed: String },
+    /// It reads: the tables of its program, its printed form, and the lines of its warnings.
+    Reads {
+        tables: Vec<u8>,
+        printed: String,
+        warnings: Vec<u8>,
+    },
     /// It reads, and the places don't suit the variables of its program: the line that says which place is the first.
-    Misplaced { why: Vec<u8> },
+    Misplaced {
+        why: Vec<u8>,
+    },
     /// It is refused: the error, and the lines that say where and why.
-    Refused { error: ParseError, why: Vec<u8> },
+    Refused {
+        error: ParseError,
+        why: Vec<u8>,
+    },
 }
 
-/// What is told of a text that reads so, of whose program this was made ready.
+/// What is told of a text that reads so, in a file of this name, of whose program this was made ready.
 fn tabled(
     alloc: Global,
+    name: &[u8],
     text: &[u8],
     reading: &Reading,
     prepared: &Prepared,
@@ -38,11 +49,16 @@ fn tabled(
     requires limits { KeepsLimits (program_of reading.now.program) }
     requires slots { (3 ≤ prepared.now.rules.slots) × (prepared.now.rules.slots ≤ 1024) }
     ensures { (settings : Settings) → IsPrepared reading.now.program settings prepared.now
-        → IfOk result (IsToldOf text.now settings reading.now.program) }
+        → IfOk result (IsToldOf name.now text.now settings reading.now.program) }
 {
     let tables = program_table(alloc, text, &reading.program, &reading.places, prepared)?;
+    let warnings = text_warnings(alloc, name, text, &reading.program)?;
     match print(alloc, &reading.program) {
-        Ok(printed) => Ok(Check::Reads { tables, printed }),
+        Ok(printed) => Ok(Check::Reads {
+            tables,
+            printed,
+            warnings,
+        }),
         Err(_) => Err(AllocError),
     }
 }
@@ -50,13 +66,14 @@ fn tabled(
 /// What is told of a program whose variables the places don't suit.
 fn misplaced(
     alloc: Global,
+    name: &[u8],
     text: &[u8],
     program: &Program,
     settings: &Settings,
 ) -> Result<Check, AllocError>
     requires limits { KeepsLimits (program_of program.now) }
     requires unfit { AreFit program.now.variables settings.now.places.items → ⊥ }
-    ensures { IfOk result (IsToldOf text.now settings.now program.now) }
+    ensures { IfOk result (IsToldOf name.now text.now settings.now program.now) }
 {
     match misfit(
         alloc,
@@ -68,20 +85,21 @@ fn misplaced(
     }
 }
 
-/// What is told of a text that reads so.
+/// What is told of a text that reads so, in a file of this name.
 fn told(
     alloc: Global,
+    name: &[u8],
     text: &[u8],
     reading: &Reading,
     settings: &Settings,
 ) -> Result<Check, RunError>
     requires { KeepsLimits (program_of reading.now.program) }
-    ensures told { IfOk result (IsToldOf text.now settings.now reading.now.program) }
+    ensures told { IfOk result (IsToldOf name.now text.now settings.now reading.now.program) }
     ensures stops { IfErr result (StopsProgram settings.now) }
 {
     match Prepared::new(alloc, &reading.program, settings) {
-        Ok(prepared) => Ok(tabled(alloc, text, reading, &prepared)?),
-        Err(RunError::BadPlace) => Ok(misplaced(alloc, text, &reading.program, settings)?),
+        Ok(prepared) => Ok(tabled(alloc, name, text, reading, &prepared)?),
+        Err(RunError::BadPlace) => { Ok(misplaced(alloc, name, text, &reading.program, settings)?) }
         Err(error) => Err(error),
     }
 }
@@ -120,7 +138,7 @@ pub fn check_text(
     ensures stops { IfErr result (StopsCheck text.now settings.now) }
 {
     match read_text(alloc, text) {
-        Ok(reading) => told(alloc, text, &reading, settings),
+        Ok(reading) => told(alloc, name, text, &reading, settings),
         Err(refusal) => refused(alloc, name, text, refusal),
     }
 }

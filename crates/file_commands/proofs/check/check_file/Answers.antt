@@ -1,5 +1,5 @@
 -- what was found of the file
-use Rattle.std.proofs.Common.{◌≡◌, ◌∙◌, ℕ, List, Err, Option, ap, inl, inr, refl, subst, sym}
+use Rattle.std.proofs.Common.{◌≡◌, ◌∙◌, ℕ, List, Err, Option, ap, append-nil, inl, inr, refl, subst, sym}
 use Rattle.diagnostics.specs.check_output.Diagnosis.{Gave, Lost}
 use Rattle.file_commands.proofs.CheckLemmas.{lost_and_told, on_err, read_and_told, same_but_reads}
 use Rattle.file_commands.specs.Check.{IsLeftOver, IsToldOf, IsToldOfLost}
@@ -23,8 +23,8 @@ returns-in_err-complaint-in-Err-CannotRead-clause-over g c =
       rest = same_but_reads (seen c.args.desk.now) (seen c.read_file.new.self) reads.written reads.failures reads.told;
     })
 
-pub returns-in_ok-comes-in-Ok-clause-found : goal.returns-in_ok-comes-in-Ok-clause-found
-returns-in_ok-comes-in-Ok-clause-found g c =
+pub returns-in_ok-print_file-in-Ok-clause-found : goal.returns-in_ok-print_file-in-Ok-clause-found
+returns-in_ok-print_file-in-Ok-clause-found g c =
     let seen = g.D.Desk.state in
     let before = seen c.args.desk.now in
     let middle = seen c.read_file.new.self in
@@ -42,6 +42,7 @@ returns-in_ok-comes-in-Ok-clause-found g c =
       refl,
       is_check,
       c.tell_file.ensures.ends files settings name text check made is_check,
+      c.in_ok-print_file-in-Ok.ensures files name text check made,
       (
         read_and_told before middle after (events.Gave name file_bytes text) c.tell_file.ensures.rest reads.written reads.failures reads.gave
             (reads.works (λ h. absurd (cc))),
@@ -68,6 +69,7 @@ returns-in_ok-complaint-in-Err-CannotRead-clause-found g c =
       refl,
       tt,
       (refl, c.tell.ensures.status ∙ said.status),
+      sym (append-nil c.args.output.now.items),
       (
         lost_and_told before middle after complaint told reads.written reads.failures reads.refused,
         (

@@ -1,20 +1,20 @@
 -- file after file is gone over
-use Rattle.std.proofs.Common.{◌≡◌, ◌∙◌, ◌<◌, ◌+◌, ◌++◌, ◌∷◌, [], ℕ, Bor, List, Vec, ap, append-nil, count_by, get_or, inl, inr, length, map, max, nat_lt, rules}
-use Rattle.std.proofs.Common.{subst, sym}
+use Rattle.std.proofs.Common.{◌≡◌, ◌∙◌, ◌<◌, ◌+◌, ◌++◌, ◌∷◌, [], ℕ, Bor, List, Vec, ap, count_by, get_or, inl, inr, length, map, max, nat_lt, rules}
+use Rattle.std.proofs.Common.{subst, sym, true}
 use Rattle.std.specs.Global.{Global}
-use Rattle.diagnostics.specs.check_output.Diagnosis.{has_tables, name_of, output_of, status_of_one, text_of}
+use Rattle.diagnostics.specs.check_output.Diagnosis.{has_tables, name_of, output_of, status_of_one}
 use Rattle.diagnostics.specs.declared.check_output.file.Files.{Files}
 use Rattle.file_commands.proofs.CheckLemmas.{SoFar, counts_none, counts_one, goes_so_far, left_so_far, max_with_none, next_name, nothing_left}
-use Rattle.file_commands.proofs.CheckLemmas.{on_err, one_more, output_of_one, output_of_several, plus_none, read_and_left, status_of_read, text_of_none}
+use Rattle.file_commands.proofs.CheckLemmas.{on_err, one_more, output_of_one, output_of_several, plus_none, status_of_read}
 use Rattle.file_commands.specs.Check.{AreLeft, IsEndOf, asked_of}
 use Rattle.file_commands.specs.declared.check.FileEnd.{FileEnd}
 use Rattle.file_commands.specs.declared.check.FileEnd.TheVariants as ends
 use Rattle.file_commands.proofs.check.check_files.Goals as goal
-use Rattle.file_commands.proofs.check.check_files.Goals.{in-Read+in_ok-extend_from_slice-in-Read, in-Told}
+use Rattle.file_commands.proofs.check.check_files.Goals.{in-Read, in-Told}
 use Rattle.file_commands.proofs.check.check_files.Goals.{else-files, then-files+in_ok-line+in_ok-extend_from_slice}
 
-pub returns-in_err-text-clause-left : goal.returns-in_err-text-clause-left
-returns-in_err-text-clause-left g c =
+pub returns-in_err-check_file-clause-left : goal.returns-in_err-check_file-clause-left
+returns-in_err-check_file-clause-left g c =
     let seen = g.D.Desk.state in
     let request = c.args.request.now in
     let files : Files = record { several = nat_lt 1 c.len.result; print = request.print } in
@@ -23,24 +23,7 @@ returns-in_err-text-clause-left g c =
     let loop = c.loop-name in
     on_err (AreLeft request (seen c.args.desk.now) (seen c.check_file.new.desk)) c.from_residual.result
     (left_so_far request c.args.settings.now files loop.name-index loop.output.items loop.read loop.status (seen c.args.desk.now)
-    (seen loop.desk) (seen c.check_file.new.desk) c.requires.asks are loop.invariant (inl there) c.in_err-text.ensures.over)
-
-pub returns-in_err-extend_from_slice-in-Read-clause-left : goal.returns-in_err-extend_from_slice-in-Read-clause-left
-returns-in_err-extend_from_slice-in-Read-clause-left g c =
-    let seen = g.D.Desk.state in
-    let request = c.args.request.now in
-    let files : Files = record { several = nat_lt 1 c.len.result; print = request.print } in
-    let are : files ≡ asked_of request = search rules in
-    let there : c.loop-name.name-index < length request.files.items = search rules in
-    let loop = c.loop-name in
-    let found = c.in_ok-text.ensures.found in
-    let ends : IsEndOf files found.0 (ends.Read c.in-Read.text) =
-    subst (λ (e : FileEnd). IsEndOf files found.0 e) c.in-Read.is found.3 in
-    on_err (AreLeft request (seen c.args.desk.now) (seen c.check_file.new.desk))
-    c.from_residual-in_err-extend_from_slice-in-Read.result
-    (left_so_far request c.args.settings.now files loop.name-index loop.output.items loop.read loop.status (seen c.args.desk.now)
-    (seen loop.desk) (seen c.check_file.new.desk) c.requires.asks are loop.invariant (inl there)
-    (read_and_left files files.several found.0 (seen loop.desk) (seen c.check_file.new.desk) ends.0 found.4))
+    (seen loop.desk) (seen c.check_file.new.desk) c.requires.asks are loop.invariant (inl there) c.in_err-check_file.ensures.over)
 
 pub loop-name-preserved : goal.loop-name-preserved
 loop-name-preserved g c =
@@ -50,33 +33,26 @@ loop-name-preserved g c =
     let files : Files = record { several = nat_lt 1 c.len.result; print = request.print } in
     let loop = c.loop-name in
     let there : loop.name-index < length request.files.items = search rules in
-    let found = c.in_ok-text.ensures.found in
+    let found = c.in_ok-check_file.ensures.found in
     let element : c.deref-name-items.result.now ≡ request.files.items = search rules in
     let none : Bor (List ℕ) = record { ref_ptr = (0, 0); now = [] } in
     let name : name_of found.0 ≡ (get_or request.files.items loop.name-index none).now =
     found.1 ∙ ap (λ (items : List (Bor (List ℕ))). (get_or items loop.name-index none).now) element in
     let named = next_name request.files.items loop.name-index none (name_of found.0) there name in
-    let more : (output : List ℕ) (others greatest : ℕ) → output ≡ loop.output.items ++ text_of files found.0
-    → others ≡ loop.read + count_by has_tables (found.0 ∷ []) → greatest ≡ max loop.status (status_of_one found.0)
-    → SoFar names c.args.settings.now files (loop.name-index + 1) output others greatest (seen c.args.desk.now) (seen c.check_file.new.desk) =
-    λ output others greatest output_is others_are greatest_is. one_more names c.args.settings.now files loop.name-index loop.output.items
-    loop.read loop.status (seen c.args.desk.now) (seen loop.desk) (seen c.check_file.new.desk) found.0 output others greatest
-    loop.invariant named found.2 found.4 output_is others_are greatest_is in
+    let more : (others greatest : ℕ) → others ≡ loop.read + count_by has_tables (found.0 ∷ []) → greatest ≡ max loop.status (status_of_one found.0)
+    → SoFar names c.args.settings.now files (loop.name-index + 1) c.check_file.new.output.items others greatest (seen c.args.desk.now) (seen c.check_file.new.desk) =
+    λ others greatest others_are greatest_is. one_more names c.args.settings.now files loop.name-index loop.output.items
+    loop.read loop.status (seen c.args.desk.now) (seen loop.desk) (seen c.check_file.new.desk) found.0 c.check_file.new.output.items others greatest
+    loop.invariant named found.2 found.5 found.4 others_are greatest_is in
     elim c.match-branch-2.branch [
-      | in-Read+in_ok-extend_from_slice-in-Read w ↦
-          let ends : IsEndOf files found.0 (ends.Read w.in-Read.text) =
-          subst (λ (e : FileEnd). IsEndOf files found.0 e) w.in-Read.is found.3 in
-          more _ _ _
-          (ap (λ (output : Vec ℕ Global). output.items) w.output-is ∙ (w.in_ok-extend_from_slice-in-Read.ensures.items
-          ∙ ap (λ text. loop.output.items ++ text) (w.deref.ensures.value ∙ ends.1)))
-          (w.read-is ∙ ap (λ n. loop.read + n) (sym (counts_one found.0 ends.0)))
-          (w.status-is ∙ (max_with_none loop.status ∙ ap (λ n. max loop.status n) (sym (status_of_read found.0 ends.0))))
+      | in-Read w ↦
+          let has : has_tables found.0 ≡ true = subst (λ (e : FileEnd). IsEndOf found.0 e) w.in-Read.is found.3 in
+          more _ _
+          (w.read-is ∙ ap (λ n. loop.read + n) (sym (counts_one found.0 has)))
+          (w.status-is ∙ (max_with_none loop.status ∙ ap (λ n. max loop.status n) (sym (status_of_read found.0 has))))
       | in-Told w ↦
-          let ends : IsEndOf files found.0 (ends.Told w.in-Told.own) =
-          subst (λ (e : FileEnd). IsEndOf files found.0 e) w.in-Told.is found.3 in
-          more _ _ _
-          (ap (λ (output : Vec ℕ Global). output.items) w.output-is ∙ (sym (append-nil loop.output.items)
-          ∙ ap (λ text. loop.output.items ++ text) (sym (text_of_none files found.0 ends.0))))
+          let ends : IsEndOf found.0 (ends.Told w.in-Told.own) = subst (λ (e : FileEnd). IsEndOf found.0 e) w.in-Told.is found.3 in
+          more _ _
           (w.read-is ∙ (plus_none loop.read ∙ ap (λ n. loop.read + n) (sym (counts_none found.0 ends.0))))
           (w.status-is ∙ (w.max-status.ensures ∙ ap (λ n. max loop.status n) ends.1))
     ]
@@ -119,7 +95,7 @@ returns-clause-checked g c =
       | then-files+in_ok-line+in_ok-extend_from_slice w ↦
           let count : w.len-then-files.result ≡ length request.files.items = search rules in
           ap (λ (output : Vec ℕ Global). output.items) w.output-is ∙ (w.in_ok-extend_from_slice.ensures.items
-          ∙ (ap (λ text. loop.output.items ++ text) (w.deref-then-files.ensures.value ∙ w.in_ok-line.ensures)
+          ∙ (ap (λ text. loop.output.items ++ text) (w.deref.ensures.value ∙ w.in_ok-line.ensures)
           ∙ output_of_several files far.founds loop.output.items loop.read w.len-then-files.result w.if-files.true far.output_is far.read_is
           (count ∙ sym all)))
       | else-files w ↦

@@ -1,9 +1,9 @@
 -- file after file is looked into
 use Rattle.std.proofs.Common.{◌≡◌, ◌∙◌, ◌<◌, ◌+◌, ◌^◌, ◌++◌, [], ℕ, Bor, List, Vec, ap, append-nil, arith, get_or, inl, inr, length, refl, rules, sym}
 use Rattle.std.specs.Global.{Global}
-use Rattle.file_commands.proofs.CheckLemmas.{next_name, nothing_left, on_err}
+use Rattle.file_commands.proofs.CheckLemmas.{next_name, nothing_left, on_err, some_text}
 use Rattle.file_commands.proofs.FilesLemmas.{SearchedSoFar, all_clear, can_count, empty_text, left_behind, left_out_so_far, looks_so_far, more_by_names, none_searched, one_searched}
-use Rattle.file_commands.proofs.FilesLemmas.{output_so_far, some_text}
+use Rattle.file_commands.proofs.FilesLemmas.{output_so_far}
 use Rattle.file_commands.specs.Desks.{DeskState}
 use Rattle.file_commands.specs.FileWork.{AreLeftOut, is_more}
 use Rattle.file_commands.specs.FilesAsked.{asked_by}

@@ -17,8 +17,7 @@ returns-in-Ok-clause-reads g c =
     on_left (λ several. (c.in-Ok.request, c.in-Ok.ensures.bounds, c.in-Ok.ensures.asked, several)) c.carry_out.ensures.reads
 
 pub returns-in-Ok-clause-tells : goal.returns-in-Ok-clause-tells
-returns-in-Ok-clause-tells g c =
-    on_left (λ several. (c.in-Ok.request, c.in-Ok.ensures.bounds, c.in-Ok.ensures.asked, several)) c.carry_out.ensures.tells
+returns-in-Ok-clause-tells g c = inl (c.in-Ok.request, c.in-Ok.ensures.bounds, c.in-Ok.ensures.asked, c.carry_out.ensures.tells)
 
 pub returns-in-Ok-clause-ends : goal.returns-in-Ok-clause-ends
 returns-in-Ok-clause-ends g c =

@@ -14,4 +14,5 @@ returns-in-Ok c = λ settings ready.
         is = c.in_ok-tables.ensures settings words ready;
       },
       c.in-Ok.ensures.printed,
+      c.in_ok-warnings.ensures,
     )

@@ -1,13 +1,13 @@
 //! The last line of a message: what to write in the place of what C or the kernel's format have, or why it isn't read.
 
 ghost use Rattle.std.specs.Prelude.{◌≡◌};
-ghost use Rattle.diagnostics.specs.refusal_text.Notes as spec;
+ghost use Rattle.check_notes.specs.Notes as spec;
 
 use litmus_lex::{Expected, Fault, Sign, Unread};
 use litmus_parse::Reason;
 
 /// That nothing jumps.
-#[tactic(auto, unfolding(crate::specs::refusal_text::Notes::jump_note))]
+#[tactic(auto, unfolding(crate::specs::Notes::jump_note))]
 fn jump_note() -> &'static str
     ensures { result.now ≡ spec.jump_note }
 {
@@ -15,7 +15,7 @@ fn jump_note() -> &'static str
 }
 
 /// That nothing is computed.
-#[tactic(auto, unfolding(crate::specs::refusal_text::Notes::number_note))]
+#[tactic(auto, unfolding(crate::specs::Notes::number_note))]
 fn number_note() -> &'static str
     ensures { result.now ≡ spec.number_note }
 {
@@ -23,7 +23,7 @@ fn number_note() -> &'static str
 }
 
 /// That a variable stands without `*` and `&`.
-#[tactic(auto, unfolding(crate::specs::refusal_text::Notes::name_note))]
+#[tactic(auto, unfolding(crate::specs::Notes::name_note))]
 fn name_note() -> &'static str
     ensures { result.now ≡ spec.name_note }
 {
@@ -31,7 +31,7 @@ fn name_note() -> &'static str
 }
 
 /// That a variable stands behind `*`.
-#[tactic(auto, unfolding(crate::specs::refusal_text::Notes::star_note))]
+#[tactic(auto, unfolding(crate::specs::Notes::star_note))]
 fn star_note() -> &'static str
     ensures { result.now ≡ spec.star_note }
 {
@@ -39,7 +39,7 @@ fn star_note() -> &'static str
 }
 
 /// That a wait ends.
-#[tactic(auto, unfolding(crate::specs::refusal_text::Notes::wait_note))]
+#[tactic(auto, unfolding(crate::specs::Notes::wait_note))]
 fn wait_note() -> &'static str
     ensures { result.now ≡ spec.wait_note }
 {
@@ -47,7 +47,7 @@ fn wait_note() -> &'static str
 }
 
 /// How a sequence count is written.
-#[tactic(auto, unfolding(crate::specs::refusal_text::Notes::sequence_note))]
+#[tactic(auto, unfolding(crate::specs::Notes::sequence_note))]
 fn sequence_note() -> &'static str
     ensures { result.now ≡ spec.sequence_note }
 {
@@ -55,7 +55,7 @@ fn sequence_note() -> &'static str
 }
 
 /// A word that goes on elsewhere in a function of C.
-#[tactic(auto, unfolding(crate::specs::refusal_text::Notes::is_jump))]
+#[tactic(auto, unfolding(crate::specs::Notes::is_jump))]
 fn is_jump(word: &[u8]) -> bool
     ensures { result ≡ spec.is_jump word.now }
 {
@@ -66,7 +66,7 @@ fn is_jump(word: &[u8]) -> bool
 }
 
 /// A type of 1 byte that the kernel has.
-#[tactic(auto, unfolding(crate::specs::refusal_text::Notes::has_one_byte))]
+#[tactic(auto, unfolding(crate::specs::Notes::has_one_byte))]
 fn has_one_byte(word: &[u8]) -> bool
     ensures { result ≡ spec.has_one_byte word.now }
 {
@@ -78,7 +78,7 @@ fn has_one_byte(word: &[u8]) -> bool
 }
 
 /// A type of 2 bytes that the kernel has.
-#[tactic(auto, unfolding(crate::specs::refusal_text::Notes::has_two_bytes))]
+#[tactic(auto, unfolding(crate::specs::Notes::has_two_bytes))]
 fn has_two_bytes(word: &[u8]) -> bool
     ensures { result ≡ spec.has_two_bytes word.now }
 {
@@ -89,7 +89,7 @@ fn has_two_bytes(word: &[u8]) -> bool
 }
 
 /// A type of 4 bytes that the kernel has.
-#[tactic(auto, unfolding(crate::specs::refusal_text::Notes::has_four_bytes))]
+#[tactic(auto, unfolding(crate::specs::Notes::has_four_bytes))]
 fn has_four_bytes(word: &[u8]) -> bool
     ensures { result ≡ spec.has_four_bytes word.now }
 {
@@ -100,7 +100,7 @@ fn has_four_bytes(word: &[u8]) -> bool
 }
 
 /// A type of 8 bytes that the kernel has.
-#[tactic(auto, unfolding(crate::specs::refusal_text::Notes::has_eight_bytes))]
+#[tactic(auto, unfolding(crate::specs::Notes::has_eight_bytes))]
 fn has_eight_bytes(word: &[u8]) -> bool
     ensures { result ≡ spec.has_eight_bytes word.now }
 {
@@ -113,7 +113,7 @@ fn has_eight_bytes(word: &[u8]) -> bool
 }
 
 /// A type that the kernel has.
-#[tactic(auto, unfolding(crate::specs::refusal_text::Notes::is_type))]
+#[tactic(auto, unfolding(crate::specs::Notes::is_type))]
 fn is_type(word: &[u8]) -> bool
     ensures { result ≡ spec.is_type word.now }
 {
@@ -121,7 +121,7 @@ fn is_type(word: &[u8]) -> bool
 }
 
 /// Which type is read in the place of a word that is a type of the kernel.
-#[tactic(auto, unfolding(crate::specs::refusal_text::Notes::type_note))]
+#[tactic(auto, unfolding(crate::specs::Notes::type_note))]
 fn type_note(word: &[u8]) -> &'static str
     ensures { result.now ≡ spec.type_note word.now }
 {
@@ -141,7 +141,7 @@ fn type_note(word: &[u8]) -> &'static str
 }
 
 /// It begins with a digit.
-#[tactic(auto, unfolding(crate::specs::refusal_text::Notes::is_number))]
+#[tactic(auto, unfolding(crate::specs::Notes::is_number))]
 fn is_number(word: &[u8]) -> bool
     ensures { result ≡ spec.is_number word.now }
 {
@@ -152,7 +152,7 @@ fn is_number(word: &[u8]) -> bool
 }
 
 /// Letters that C has behind a number.
-#[tactic(auto, unfolding(crate::specs::refusal_text::Notes::is_suffix))]
+#[tactic(auto, unfolding(crate::specs::Notes::is_suffix))]
 fn is_suffix(word: &[u8]) -> bool
     ensures { result ≡ spec.is_suffix word.now }
 {
@@ -165,7 +165,7 @@ fn is_suffix(word: &[u8]) -> bool
 }
 
 /// An operator between two numbers.
-#[tactic(auto, unfolding(crate::specs::refusal_text::Notes::is_operator))]
+#[tactic(auto, unfolding(crate::specs::Notes::is_operator))]
 fn is_operator(sign: &[u8]) -> bool
     ensures { result ≡ spec.is_operator sign.now }
 {
@@ -182,7 +182,7 @@ fn is_operator(sign: &[u8]) -> bool
 }
 
 /// Behind a number: an operator of C in the condition or where nothing is computed, or a suffix.
-#[tactic(auto, unfolding(crate::specs::refusal_text::Notes::behind_number))]
+#[tactic(auto, unfolding(crate::specs::Notes::behind_number))]
 fn behind_number(token: &[u8]) -> &'static str
     ensures { result.now ≡ spec.behind_number token.now }
 {
@@ -202,7 +202,7 @@ fn behind_number(token: &[u8]) -> &'static str
 }
 
 /// Behind a register: its assignment, its value in the condition, or a label.
-#[tactic(auto, unfolding(crate::specs::refusal_text::Notes::register_note))]
+#[tactic(auto, unfolding(crate::specs::Notes::register_note))]
 fn register_note(token: &[u8]) -> &'static str
     ensures { result.now ≡ spec.register_note token.now }
 {
@@ -219,7 +219,7 @@ fn register_note(token: &[u8]) -> &'static str
 }
 
 /// Behind a statement, as `*x`.
-#[tactic(auto, unfolding(crate::specs::refusal_text::Notes::statement_note))]
+#[tactic(auto, unfolding(crate::specs::Notes::statement_note))]
 fn statement_note(token: &[u8]) -> &'static str
     ensures { result.now ≡ spec.statement_note token.now }
 {
@@ -233,7 +233,7 @@ fn statement_note(token: &[u8]) -> &'static str
 }
 
 /// Behind `(*x)`.
-#[tactic(auto, unfolding(crate::specs::refusal_text::Notes::increment_note))]
+#[tactic(auto, unfolding(crate::specs::Notes::increment_note))]
 fn increment_note(token: &[u8]) -> &'static str
     ensures { result.now ≡ spec.increment_note token.now }
 {
@@ -245,7 +245,7 @@ fn increment_note(token: &[u8]) -> &'static str
 }
 
 /// In the place of a `*`: a cast, or a variable.
-#[tactic(auto, unfolding(crate::specs::refusal_text::Notes::unstarred_note))]
+#[tactic(auto, unfolding(crate::specs::Notes::unstarred_note))]
 fn unstarred_note(token: &[u8]) -> &'static str
     ensures { result.now ≡ spec.unstarred_note token.now }
 {
@@ -257,7 +257,7 @@ fn unstarred_note(token: &[u8]) -> &'static str
 }
 
 /// What to write where this sign is expected.
-#[tactic(auto, unfolding(crate::specs::refusal_text::Notes::sign_note))]
+#[tactic(auto, unfolding(crate::specs::Notes::sign_note))]
 fn sign_note(sign: Sign, token: &[u8]) -> &'static str
     ensures { result.now ≡ spec.sign_note sign token.now }
 {
@@ -271,7 +271,7 @@ fn sign_note(sign: Sign, token: &[u8]) -> &'static str
 }
 
 /// In the place of a variable's name.
-#[tactic(auto, unfolding(crate::specs::refusal_text::Notes::starred_note))]
+#[tactic(auto, unfolding(crate::specs::Notes::starred_note))]
 fn starred_note(token: &[u8]) -> &'static str
     ensures { result.now ≡ spec.starred_note token.now }
 {
@@ -283,7 +283,7 @@ fn starred_note(token: &[u8]) -> &'static str
 }
 
 /// In the place of the type of a parameter.
-#[tactic(auto, unfolding(crate::specs::refusal_text::Notes::parameter_note))]
+#[tactic(auto, unfolding(crate::specs::Notes::parameter_note))]
 fn parameter_note(token: &[u8]) -> &'static str
     ensures { result.now ≡ spec.parameter_note token.now }
 {
@@ -303,7 +303,7 @@ fn parameter_note(token: &[u8]) -> &'static str
 }
 
 /// In the place of a process.
-#[tactic(auto, unfolding(crate::specs::refusal_text::Notes::process_note))]
+#[tactic(auto, unfolding(crate::specs::Notes::process_note))]
 fn process_note(token: &[u8]) -> &'static str
     ensures { result.now ≡ spec.process_note token.now }
 {
@@ -315,7 +315,7 @@ fn process_note(token: &[u8]) -> &'static str
 }
 
 /// What to write where this is expected.
-#[tactic(auto, unfolding(crate::specs::refusal_text::Notes::place_note))]
+#[tactic(auto, unfolding(crate::specs::Notes::place_note))]
 fn place_note(expected: Expected, token: &[u8]) -> &'static str
     ensures { result.now ≡ spec.place_note expected token.now }
 {
@@ -334,7 +334,7 @@ fn place_note(expected: Expected, token: &[u8]) -> &'static str
 
 /// What to write in the place of a token behind this word, which is taken for a register or a variable, or behind this
 /// number.
-#[tactic(auto, unfolding(crate::specs::refusal_text::Notes::token_note))]
+#[tactic(auto, unfolding(crate::specs::Notes::token_note))]
 fn token_note(expected: Expected, token: &[u8], before: &[u8]) -> &'static str
     ensures { result.now ≡ spec.token_note expected token.now before.now }
 {
@@ -357,7 +357,7 @@ fn token_note(expected: Expected, token: &[u8], before: &[u8]) -> &'static str
 }
 
 /// What to write where a text has this fault.
-#[tactic(auto, unfolding(crate::specs::refusal_text::Notes::fault_note))]
+#[tactic(auto, unfolding(crate::specs::Notes::fault_note))]
 fn fault_note(fault: Fault, expected: Expected, token: &[u8], before: &[u8]) -> &'static str
     ensures { result.now ≡ spec.fault_note fault expected token.now before.now }
 {
@@ -371,7 +371,7 @@ fn fault_note(fault: Fault, expected: Expected, token: &[u8], before: &[u8]) -> 
 }
 
 /// A call of the kernel's format that has to do with RCU.
-#[tactic(auto, unfolding(crate::specs::refusal_text::Notes::is_of_rcu))]
+#[tactic(auto, unfolding(crate::specs::Notes::is_of_rcu))]
 fn is_of_rcu(name: &[u8]) -> bool
     ensures { result ≡ spec.is_of_rcu name.now }
 {
@@ -382,7 +382,7 @@ fn is_of_rcu(name: &[u8]) -> bool
 }
 
 /// A call of a lock.
-#[tactic(auto, unfolding(crate::specs::refusal_text::Notes::is_of_lock))]
+#[tactic(auto, unfolding(crate::specs::Notes::is_of_lock))]
 fn is_of_lock(name: &[u8]) -> bool
     ensures { result ≡ spec.is_of_lock name.now }
 {
@@ -394,7 +394,7 @@ fn is_of_lock(name: &[u8]) -> bool
 }
 
 /// A call of a lock that also keeps interrupts off.
-#[tactic(auto, unfolding(crate::specs::refusal_text::Notes::is_of_interrupts))]
+#[tactic(auto, unfolding(crate::specs::Notes::is_of_interrupts))]
 fn is_of_interrupts(name: &[u8]) -> bool
     ensures { result ≡ spec.is_of_interrupts name.now }
 {
@@ -405,7 +405,7 @@ fn is_of_interrupts(name: &[u8]) -> bool
 }
 
 /// The line on a call of a lock.
-#[tactic(auto, unfolding(crate::specs::refusal_text::Notes::lock_why))]
+#[tactic(auto, unfolding(crate::specs::Notes::lock_why))]
 fn lock_why(name: &[u8]) -> &'static str
     ensures { result.now ≡ spec.lock_why name.now }
 {
@@ -422,7 +422,7 @@ fn lock_why(name: &[u8]) -> &'static str
 }
 
 /// A call without an effect where there are no interrupts and memory is sequentially consistent.
-#[tactic(auto, unfolding(crate::specs::refusal_text::Notes::has_no_effect))]
+#[tactic(auto, unfolding(crate::specs::Notes::has_no_effect))]
 fn has_no_effect(name: &[u8]) -> bool
     ensures { result ≡ spec.has_no_effect name.now }
 {
@@ -434,7 +434,7 @@ fn has_no_effect(name: &[u8]) -> bool
 }
 
 /// A call that gives a number before the program runs.
-#[tactic(auto, unfolding(crate::specs::refusal_text::Notes::is_of_number))]
+#[tactic(auto, unfolding(crate::specs::Notes::is_of_number))]
 fn is_of_number(name: &[u8]) -> bool
     ensures { result ≡ spec.is_of_number name.now }
 {
@@ -445,7 +445,7 @@ fn is_of_number(name: &[u8]) -> bool
 }
 
 /// A call of a sequence count.
-#[tactic(auto, unfolding(crate::specs::refusal_text::Notes::is_of_sequence))]
+#[tactic(auto, unfolding(crate::specs::Notes::is_of_sequence))]
 fn is_of_sequence(name: &[u8]) -> bool
     ensures { result ≡ spec.is_of_sequence name.now }
 {
@@ -456,7 +456,7 @@ fn is_of_sequence(name: &[u8]) -> bool
 }
 
 /// A call that changes a bit of a word at once.
-#[tactic(auto, unfolding(crate::specs::refusal_text::Notes::changes_bit))]
+#[tactic(auto, unfolding(crate::specs::Notes::changes_bit))]
 fn changes_bit(name: &[u8]) -> bool
     ensures { result ≡ spec.changes_bit name.now }
 {
@@ -467,7 +467,7 @@ fn changes_bit(name: &[u8]) -> bool
 }
 
 /// A call that stops the kernel, or warns, where something isn't so.
-#[tactic(auto, unfolding(crate::specs::refusal_text::Notes::asserts))]
+#[tactic(auto, unfolding(crate::specs::Notes::asserts))]
 fn asserts(name: &[u8]) -> bool
     ensures { result ≡ spec.asserts name.now }
 {
@@ -475,7 +475,7 @@ fn asserts(name: &[u8]) -> bool
 }
 
 /// The line on a call of the kernel that is made of accesses and calls that are read.
-#[tactic(auto, unfolding(crate::specs::refusal_text::Notes::made_of_others))]
+#[tactic(auto, unfolding(crate::specs::Notes::made_of_others))]
 fn made_of_others(name: &[u8]) -> &'static str
     ensures { result.now ≡ spec.made_of_others name.now }
 {
@@ -498,7 +498,7 @@ fn made_of_others(name: &[u8]) -> &'static str
 }
 
 /// The line that says why a call isn't read that the kernel's format or C has.
-#[tactic(auto, unfolding(crate::specs::refusal_text::Notes::call_why))]
+#[tactic(auto, unfolding(crate::specs::Notes::call_why))]
 fn call_why(name: &[u8]) -> &'static str
     ensures { result.now ≡ spec.call_why name.now }
 {
@@ -530,7 +530,7 @@ fn call_why(name: &[u8]) -> &'static str
 }
 
 /// The line that says why a part of a text isn't read that the kernel's format has.
-#[tactic(auto, unfolding(crate::specs::refusal_text::Notes::section_why))]
+#[tactic(auto, unfolding(crate::specs::Notes::section_why))]
 fn section_why(name: &[u8]) -> &'static str
     ensures { result.now ≡ spec.section_why name.now }
 {
@@ -542,7 +542,7 @@ fn section_why(name: &[u8]) -> &'static str
 }
 
 /// The line on a loop that waits.
-#[tactic(auto, unfolding(crate::specs::refusal_text::Notes::loop_why))]
+#[tactic(auto, unfolding(crate::specs::Notes::loop_why))]
 fn loop_why(word: &[u8]) -> &'static str
     ensures { result.now ≡ spec.loop_why word.now }
 {
@@ -554,7 +554,7 @@ fn loop_why(word: &[u8]) -> &'static str
 }
 
 /// The line on a word of C.
-#[tactic(auto, unfolding(crate::specs::refusal_text::Notes::word_why))]
+#[tactic(auto, unfolding(crate::specs::Notes::word_why))]
 fn word_why(word: &[u8]) -> &'static str
     ensures { result.now ≡ spec.word_why word.now }
 {
@@ -571,7 +571,7 @@ fn word_why(word: &[u8]) -> &'static str
 }
 
 /// The line on an operator of C.
-#[tactic(auto, unfolding(crate::specs::refusal_text::Notes::operator_why))]
+#[tactic(auto, unfolding(crate::specs::Notes::operator_why))]
 fn operator_why(sign: &[u8]) -> &'static str
     ensures { result.now ≡ spec.operator_why sign.now }
 {
@@ -585,7 +585,7 @@ fn operator_why(sign: &[u8]) -> &'static str
 }
 
 /// The line on an address where this is expected.
-#[tactic(auto, unfolding(crate::specs::refusal_text::Notes::address_why))]
+#[tactic(auto, unfolding(crate::specs::Notes::address_why))]
 fn address_why(expected: Expected) -> &'static str
     ensures { result.now ≡ spec.address_why expected }
 {
@@ -600,7 +600,7 @@ fn address_why(expected: Expected) -> &'static str
 }
 
 /// The line that says why this isn't read, where the kernel's format or C has it.
-#[tactic(auto, unfolding(crate::specs::refusal_text::Notes::why))]
+#[tactic(auto, unfolding(crate::specs::Notes::why))]
 fn why(unread: Unread, expected: Expected, token: &[u8]) -> &'static str
     ensures { result.now ≡ spec.why unread expected token.now }
 {
@@ -616,8 +616,8 @@ fn why(unread: Unread, expected: Expected, token: &[u8]) -> &'static str
 }
 
 /// The last line of what is said of a text that is refused where this token stands, behind this word in its line.
-#[tactic(auto, unfolding(crate::specs::refusal_text::Notes::note_of))]
-pub(crate) fn note_of(reason: Reason, token: &[u8], before: &[u8]) -> &'static str
+#[tactic(auto, unfolding(crate::specs::Notes::note_of))]
+pub fn note_of(reason: Reason, token: &[u8], before: &[u8]) -> &'static str
     ensures { result.now ≡ spec.note_of reason token.now before.now }
 {
     match reason {

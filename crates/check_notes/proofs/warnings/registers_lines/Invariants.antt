@@ -1,0 +1,10 @@
+-- The lines so far, and those of the registers to come, are all.
+use Rattle.std.proofs.Common.{◌≡◌, ◌++◌, drop}
+use Rattle.litmus_syntax.specs.Views.{block_of, proposition_of}
+use Rattle.check_notes.specs.Warnings.{registers_from}
+use Rattle.check_notes.proofs.warnings.registers_lines.Given as goal
+
+abbrev pub invariant-loop-number : goal.invariant-loop-number
+invariant-loop-number l =
+    l.lines.items ++ registers_from l.file l.task (block_of l.body) (proposition_of l.condition) l.number (drop l.number l.registers)
+    ≡ registers_from l.file l.task (block_of l.body) (proposition_of l.condition) 0 l.registers

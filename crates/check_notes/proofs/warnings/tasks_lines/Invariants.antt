@@ -1,0 +1,10 @@
+-- The lines so far, and those of the tasks to come, are all.
+use Rattle.std.proofs.Common.{◌≡◌, ◌++◌, drop, map}
+use Rattle.litmus_syntax.specs.Views.{proposition_of, task_of}
+use Rattle.check_notes.specs.Warnings.{tasks_from}
+use Rattle.check_notes.proofs.warnings.tasks_lines.Given as goal
+
+abbrev pub invariant-loop-number : goal.invariant-loop-number
+invariant-loop-number l =
+    l.lines.items ++ tasks_from l.file (proposition_of l.condition) l.number (map task_of (drop l.number l.tasks))
+    ≡ tasks_from l.file (proposition_of l.condition) 0 (map task_of l.tasks)

@@ -1,0 +1,5 @@
+pub mod HeadScan
+pub mod HeadText
+pub mod Notes
+pub mod Registers
+pub mod Warnings
