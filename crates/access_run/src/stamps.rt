@@ -6,7 +6,7 @@ ghost use Rattle.access_run.specs.Stamps.{stamp_in};
 use slot_table::Answer;
 
 /// The stamps of an access's begin and end, as soon as the clock has given them.
-#[derive(Clone, Copy, PartialEq, Eq)]
+#[derive(Clone, Copy)]
 pub struct Stamps {
     pub begin: Option<u64>,
     pub end: Option<u64>,

@@ -10,7 +10,7 @@ ghost use Rattle.access_types.specs.declared.history.Bytes.{Bytes};
 use crate::access::Access;
 
 /// A KCSAN call that a task makes between its accesses.
-#[derive(Clone, Copy, Debug, PartialEq, Eq)]
+#[derive(Clone, Copy, PartialEq, Eq)]
 pub enum Mark {
     /// `kcsan_disable_current`.
     Disable,

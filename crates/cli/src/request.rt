@@ -593,7 +593,7 @@ fn settings<'a>(matches: &ArgMatches<'a>, trace: Option<&'a str>) -> Option<RunO
 }
 
 /// Two settings of KCSAN that are yes or no.
-#[derive(Clone, Copy, Debug, PartialEq, Eq)]
+#[derive(Clone, Copy)]
 pub(crate) struct Choices {
     /// Whether hits that leave the value as it was give no report.
     pub(crate) value_change_only: bool,

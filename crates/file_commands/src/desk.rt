@@ -15,7 +15,7 @@ use search_output::SearchProgress;
 use std::alloc::Global;
 
 /// Why a file gives no bytes.
-#[derive(Clone, Copy, PartialEq, Eq)]
+#[derive(Clone, Copy)]
 pub enum ReadFault {
     OutOfMemory,
     CannotRead,

@@ -35,7 +35,7 @@ pub struct Parameter<'a> {
 }
 
 /// Which types of variables a form of statement takes.
-#[derive(Clone, Copy, PartialEq, Eq)]
+#[derive(Clone, Copy)]
 pub enum Takes {
     /// `char`, `short`, `int`, `long`.
     Integers,

@@ -4,7 +4,7 @@ ghost use Rattle.std.specs.Prelude.{◌≡◌, ◌+◌, ◌<◌, ◌≤◌, leng
 ghost use Rattle.litmus_lex.specs.Bytes.{belongs, EndsAtPair, IsRun, LacksPair};
 
 /// A class of bytes.
-#[derive(Clone, Copy, PartialEq, Eq)]
+#[derive(Clone, Copy)]
 pub enum Class {
     /// What separates tokens: blank, tab, CR, LF.
     Blank,

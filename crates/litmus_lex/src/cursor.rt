@@ -29,7 +29,7 @@ pub enum Excess {
 }
 
 /// Why a text is refused. `at` is where the token that offends begins.
-#[derive(Clone, Copy, Debug, PartialEq, Eq)]
+#[derive(Clone, Copy)]
 pub enum Refusal {
     OutOfMemory,
     Syntax {

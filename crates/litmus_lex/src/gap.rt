@@ -8,7 +8,7 @@ use crate::bytes::{Class, pair_len, run_len};
 use crate::token::Part;
 
 /// The kinds of comments.
-#[derive(Clone, Copy, PartialEq, Eq)]
+#[derive(Clone, Copy)]
 pub enum Comment {
     /// `(* .. *)`, outside process bodies.
     Parens,
@@ -19,7 +19,7 @@ pub enum Comment {
 }
 
 /// What a text begins with.
-#[derive(Clone, Copy, PartialEq, Eq)]
+#[derive(Clone, Copy)]
 pub enum Front {
     /// No blank and no comment.
     Token,
@@ -30,7 +30,7 @@ pub enum Front {
 }
 
 /// The blanks and comments that a text begins with.
-#[derive(Clone, Copy, PartialEq, Eq)]
+#[derive(Clone, Copy)]
 pub enum Gap {
     /// So many bytes, after which a token or the end comes.
     Before(usize),

@@ -38,7 +38,7 @@ pub enum Token<'a> {
 }
 
 /// A place in a text after its head, and the part of the text in which it is.
-#[derive(Clone, Copy, PartialEq, Eq)]
+#[derive(Clone, Copy)]
 pub struct SourcePosition {
     /// How many bytes stand before it.
     pub at: usize,
@@ -47,7 +47,7 @@ pub struct SourcePosition {
 }
 
 /// The token that a text goes on with, the place of its first byte, and the place after it.
-#[derive(Clone, Copy, PartialEq, Eq)]
+#[derive(Clone, Copy)]
 pub struct Lexeme<'a> {
     pub token: Token<'a>,
     /// How many bytes stand before the token.

@@ -23,7 +23,7 @@ pub enum VariableType {
 }
 
 /// A word that begins a load and isn't `data_race`.
-#[derive(Clone, Copy, PartialEq, Eq)]
+#[derive(Clone, Copy)]
 pub enum LoadWord {
     /// `READ_ONCE`, `smp_load_acquire`, `atomic_read`.
     Read(ReadForm),
@@ -34,7 +34,7 @@ pub enum LoadWord {
 }
 
 /// A word that begins a statement which changes a variable.
-#[derive(Clone, Copy, PartialEq, Eq)]
+#[derive(Clone, Copy)]
 pub enum StoreWord {
     /// `WRITE_ONCE`, `smp_store_release`, `atomic_set`.
     Write(WriteForm),
@@ -47,7 +47,7 @@ pub enum StoreWord {
 }
 
 /// A word that begins another call.
-#[derive(Clone, Copy, PartialEq, Eq)]
+#[derive(Clone, Copy)]
 pub enum CallWord {
     /// `smp_mb` and its kin.
     Barrier(Barrier),
@@ -70,7 +70,7 @@ pub enum CallWord {
 }
 
 /// A word of the grammar.
-#[derive(Clone, Copy, PartialEq, Eq)]
+#[derive(Clone, Copy)]
 pub enum Word {
     Type(VariableType),
     /// `ATOMIC_INIT`

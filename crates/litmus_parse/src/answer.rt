@@ -29,7 +29,7 @@ pub enum Reason {
 
 /// A text that is refused: the error, how many bytes stand before what offends, and why it does. Where memory is
 /// refused, nothing offends.
-#[derive(Clone, Copy, PartialEq, Eq)]
+#[derive(Clone, Copy)]
 pub struct Refused {
     pub error: ParseError,
     pub at: usize,

@@ -33,7 +33,7 @@ use task_log::{Noted, TaskLog};
 use task_run::TaskRun;
 
 /// What a task is after it was asked for a step.
-#[derive(Clone, Copy, PartialEq, Eq)]
+#[derive(Clone, Copy)]
 pub enum Stepped {
     /// It goes on.
     Moved,

@@ -1,7 +1,7 @@
 //! How many files have which verdict.
 
 /// What came of files: how many there are of each kind.
-#[derive(Clone, Copy, Debug, PartialEq, Eq)]
+#[derive(Clone, Copy)]
 pub struct FileCounts {
     pub free: usize,
     pub reported: usize,

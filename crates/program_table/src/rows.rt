@@ -15,7 +15,7 @@ use std::alloc::{AllocError, Global};
 use watch_word::{Layout, encode_in};
 
 /// Where an access stands in a text.
-#[derive(Clone, Copy, PartialEq, Eq)]
+#[derive(Clone, Copy)]
 pub enum Spot {
     Unknown,
     /// Each from 1.

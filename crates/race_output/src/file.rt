@@ -24,7 +24,7 @@ use search_output::SearchProgress;
 use std::alloc::{AllocError, Global};
 
 /// In which form the races of a file are written.
-#[derive(Clone, Copy, Debug, PartialEq, Eq)]
+#[derive(Clone, Copy)]
 pub enum Format {
     Text,
     Json,

@@ -77,7 +77,7 @@ fn has_said(pairs: &[PairFound], wanted: Said) -> bool
 }
 
 /// The verdict on a file, by those on its pairs.
-#[derive(Clone, Copy, Debug, PartialEq, Eq)]
+#[derive(Clone, Copy)]
 pub enum FileVerdict {
     /// No pair is a race: each is none, or is apart.
     Free,

@@ -3,7 +3,7 @@
 use search_output::SearchProgress;
 
 /// The bounds of each walk and of each search.
-#[derive(Clone, Copy, Debug, PartialEq, Eq)]
+#[derive(Clone, Copy)]
 pub struct RacesWanted {
     /// After how many states, or schedules, it stops, though others remain.
     pub limit: u64,

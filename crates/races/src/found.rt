@@ -10,7 +10,7 @@ ghost use Rattle.races.specs.declared.pair.SitePair.{SitePair};
 use crate::verdict::{MissedWhy, NoRaceWhy, Verdict};
 
 /// What some execution shows of accesses at the two sites that are in progress at one moment.
-#[derive(Clone, Copy, Debug, PartialEq, Eq)]
+#[derive(Clone, Copy)]
 pub struct PairShown {
     /// That they conflict.
     pub at_once: bool,
@@ -23,7 +23,7 @@ pub struct PairShown {
 }
 
 /// What was found of a pair where nothing is watched.
-#[derive(Clone, Copy, Debug, PartialEq, Eq)]
+#[derive(Clone, Copy)]
 pub struct Unwatched {
     pub shown: PairShown,
     /// Whether they are a race: a true race, in which a mask of either is broken by the other.
@@ -33,7 +33,7 @@ pub struct Unwatched {
 }
 
 /// What was found of a pair where accesses are watched.
-#[derive(Clone, Copy, Debug, PartialEq, Eq)]
+#[derive(Clone, Copy)]
 pub struct Watched {
     /// Whether it is reported.
     pub reported: bool,

@@ -19,7 +19,7 @@ use prepared_program::program_sites::Prepared;
 use std::alloc::{AllocError, Global};
 
 /// A site of a program, and what is accessed there.
-#[derive(Clone, Copy, Debug, PartialEq, Eq)]
+#[derive(Clone, Copy)]
 pub struct PlacedSite {
     pub name: SiteName,
     pub site: Site,

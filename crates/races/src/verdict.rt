@@ -47,7 +47,7 @@ pub struct MissedWhy {
 }
 
 /// What is said of a pair of sites whose accesses conflict.
-#[derive(Debug, Drop, PartialEq, Eq)]
+#[derive(Drop)]
 pub struct PairFound {
     pub pair: SitePair,
     pub verdict: Verdict,
@@ -57,7 +57,7 @@ pub struct PairFound {
 }
 
 /// How an access counts as marked.
-#[derive(Clone, Copy, Debug, PartialEq, Eq)]
+#[derive(Clone, Copy)]
 pub enum HowMarked {
     /// It is declared marked, as `READ_ONCE()` is.
     Form,

@@ -6,12 +6,12 @@ ghost use Rattle.report_text.specs.Sink.{CountsFailure, Writes, appended};
 use thiserror::Error;
 
 /// A sink could not take bytes.
-#[derive(Clone, Copy, Debug, PartialEq, Eq, Error)]
+#[derive(Clone, Copy, Debug, Error)]
 #[error("cannot write")]
 pub struct SinkFault;
 
 /// Why a text was not written whole.
-#[derive(Clone, Copy, Debug, PartialEq, Eq, Error)]
+#[derive(Clone, Copy, Debug, Error)]
 pub enum WriteError {
     #[error("cannot write")]
     SinkFailed,

@@ -21,7 +21,7 @@ pub(crate) fn largest_batch(accesses: &[usize]) -> u64 {
 }
 
 /// Batches of as many runs each, which are made side by side.
-#[derive(Clone, Copy, PartialEq, Eq)]
+#[derive(Clone, Copy)]
 pub(crate) struct Lot {
     pub(crate) batches: usize,
     pub(crate) runs: usize,

@@ -7,7 +7,7 @@ use task_context::Context;
 
 /// The tasks of a program that may set up a watchpoint. Who starts first is often over before the last begins, so one
 /// that sets up none would be over before there is any: those that may start first in turn, from run to run.
-#[derive(Clone, Copy, PartialEq, Eq)]
+#[derive(Clone, Copy)]
 pub(crate) struct Starters {
     /// A bit for each.
     tasks: u64,

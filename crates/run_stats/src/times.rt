@@ -1,7 +1,7 @@
 //! How often a program is run, and who is told how far the runs have come.
 
 /// How often a program is run, and how.
-#[derive(Clone, Copy, PartialEq, Eq)]
+#[derive(Clone, Copy)]
 pub struct Times {
     /// How many runs there are.
     pub runs: u64,

@@ -56,7 +56,7 @@ pub fn run_once<R: Threads + Wait + Sync, S: Stall, G: Gate>(
 }
 
 /// Which of many runs one is.
-#[derive(Clone, Copy, PartialEq, Eq)]
+#[derive(Clone, Copy)]
 pub struct RunIndex {
     /// Its number, which stands in its result.
     pub number: u64,

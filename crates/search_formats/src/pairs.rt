@@ -7,14 +7,14 @@ use access_types::{Access, Report, Sites};
 use std::alloc::{AllocError, Global};
 
 /// A site of a task: the number of the task, and that of the access in its text, both from 0.
-#[derive(Clone, Copy, PartialEq, Eq)]
+#[derive(Clone, Copy)]
 pub struct ReportedSite {
     pub task: u32,
     pub site: u32,
 }
 
 /// The sites of the two accesses of a report.
-#[derive(Clone, Copy, PartialEq, Eq)]
+#[derive(Clone, Copy)]
 pub struct ReportedPair {
     pub setter: ReportedSite,
     pub finder: ReportedSite,

@@ -11,7 +11,7 @@ use search_json::refused_json;
 use std::alloc::{AllocError, Global};
 
 /// Why a file has no output.
-#[derive(Clone, Copy, PartialEq, Eq)]
+#[derive(Clone, Copy)]
 pub enum Refusal {
     /// Its text is refused.
     Text(ParseError),

@@ -1,7 +1,7 @@
 //! What is wanted of a file, and what comes of it.
 
 /// How what a search of a litmus file finds is written.
-#[derive(Clone, Copy, PartialEq, Eq)]
+#[derive(Clone, Copy)]
 pub enum Format {
     Text,
     Json,
@@ -10,14 +10,14 @@ pub enum Format {
 }
 
 /// How many preemptions a schedule that is searched may have.
-#[derive(Clone, Copy, PartialEq, Eq)]
+#[derive(Clone, Copy)]
 pub enum Preemptions {
     AtMost(u64),
     Any,
 }
 
 /// What is wanted of the search of a file.
-#[derive(Clone, Copy, PartialEq, Eq)]
+#[derive(Clone, Copy)]
 pub struct FileWanted {
     pub preemptions: Preemptions,
     /// After how many nodes, or states where there is no bound, the search stops, though others remain.

@@ -6,7 +6,7 @@ ghost use Rattle.search_json.specs.Extents as spec;
 use search_text::SearchFindings;
 
 /// How far a search went.
-#[derive(Clone, Copy, PartialEq, Eq)]
+#[derive(Clone, Copy)]
 pub struct Extent {
     /// Whether the preemptions of a schedule are bounded. Then schedules are counted, and nodes were visited; else
     /// states were.

@@ -13,7 +13,7 @@ use report_text::pieces::{Piece, write_pieces};
 use report_text::{Sink, WriteError};
 
 /// How many states were searched: all of them, or those that were visited before the search was stopped.
-#[derive(Clone, Copy, PartialEq, Eq)]
+#[derive(Clone, Copy)]
 pub struct Visited {
     pub states: u64,
     /// Whether it was.

@@ -25,7 +25,7 @@ pub struct Find {
 }
 
 /// Where a word that was read leads a look-up.
-#[derive(Clone, Copy, PartialEq, Eq)]
+#[derive(Clone, Copy)]
 pub enum Sought {
     Going(Find),
     Found(Watchpoint),

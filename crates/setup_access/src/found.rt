@@ -32,7 +32,7 @@ pub enum Found {
 }
 
 /// Where an answer leads an access that takes a watchpoint.
-#[derive(Clone, Copy, PartialEq, Eq)]
+#[derive(Clone, Copy)]
 pub enum Taking {
     Going(Found),
     Over(Outcome),

@@ -35,7 +35,7 @@ pub enum Pass {
 }
 
 /// Where an answer leads a check.
-#[derive(Clone, Copy, PartialEq, Eq)]
+#[derive(Clone, Copy)]
 pub enum Next {
     Going(Pass),
     /// It is over, and has found a watchpoint or set one up.
@@ -45,7 +45,7 @@ pub enum Next {
 }
 
 /// Where an answer leads a check, and the outcome that it gives.
-#[derive(Clone, Copy, PartialEq, Eq)]
+#[derive(Clone, Copy)]
 pub struct Transition {
     pub(crate) outcome: Option<Outcome>,
     pub(crate) to: Next,

@@ -3,7 +3,7 @@
 use watch_word::Layout;
 
 /// What all checks of a run go by.
-#[derive(Clone, Copy, PartialEq, Eq)]
+#[derive(Clone, Copy)]
 pub struct Rules {
     /// How many page slots there are.
     pub slots: usize,

@@ -69,7 +69,7 @@ pub enum Setup {
 }
 
 /// Where an answer leads an access that sets a watchpoint up.
-#[derive(Clone, Copy, PartialEq, Eq)]
+#[derive(Clone, Copy)]
 pub enum Watching {
     Going(Setup),
     /// No index was free. None is waited for: that would hold the task for the stall of another.

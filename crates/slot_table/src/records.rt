@@ -4,7 +4,7 @@
 use crate::step::{Answer, Step};
 
 /// One step of a list.
-#[derive(Clone, Copy, PartialEq, Eq)]
+#[derive(Clone, Copy)]
 pub struct Record {
     pub task: u32,
     pub step: Step,

@@ -13,7 +13,7 @@ use value_filter::Reason;
 
 /// How often each thing came of the checks of a task, or of several. Each count rests at the largest
 /// number of 64 bits.
-#[derive(Clone, Copy, PartialEq, Eq)]
+#[derive(Clone, Copy)]
 pub struct Counters {
     /// Watchpoints set up.
     pub arms: u64,

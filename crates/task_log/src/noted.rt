@@ -10,7 +10,7 @@ use slot_table::{Answer, Step};
 use value_filter::Reason;
 
 /// A step of a task, with its answer.
-#[derive(Clone, Copy, PartialEq, Eq)]
+#[derive(Clone, Copy)]
 pub struct Noted {
     pub step: Step,
     pub answer: Answer,

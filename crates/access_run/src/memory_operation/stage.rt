@@ -30,7 +30,7 @@ pub enum OperationStage {
 }
 
 /// Where an answer leads, and what the step did.
-#[derive(Clone, Copy, PartialEq, Eq)]
+#[derive(Clone, Copy)]
 pub struct Transition {
     pub stage: OperationStage,
     pub effect: Effect,

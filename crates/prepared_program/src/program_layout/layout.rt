@@ -35,7 +35,7 @@ pub struct Layout {
 }
 
 /// Why variables can't stand where they are placed.
-#[derive(Clone, Copy, Debug, PartialEq, Eq, Error)]
+#[derive(Clone, Copy, Debug, Error)]
 pub enum LayoutError {
     /// A place is no multiple of its variable's size or is above 2^62, its name is unknown, a lock's, or placed twice.
     #[error("bad place")]

@@ -8,7 +8,7 @@ use litmus_semantics::size_of;
 use litmus_syntax::{Name, Variable};
 
 /// The address of the variable of a name.
-#[derive(PartialEq, Drop)]
+#[derive(Drop)]
 pub struct Place {
     pub name: Name,
     pub addr: u64,
