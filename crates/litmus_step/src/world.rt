@@ -109,11 +109,30 @@ impl<'a> World<'a> {
         law_runs_begin();
         law_steps_are_kept();
         let board = first_board(alloc, program, prepared)?;
-        let tasks = first_tasks(alloc, program, prepared)?;
+        // By calls: where `?` drops what was made before, the proof follows the drop of all that is in it.
+        let Ok(tasks) = first_tasks(alloc, program, prepared) else {
+            drop(board);
+            return Err(AllocError);
+        };
         let accesses = prepared.accesses.as_slice();
-        let logs = first_logs(alloc, accesses)?;
-        let reports = first_reports(alloc, all_accesses(accesses))?;
-        let sites = Arc::try_clone(&prepared.sites)?;
+        let Ok(logs) = first_logs(alloc, accesses) else {
+            drop(board);
+            drop(tasks);
+            return Err(AllocError);
+        };
+        let Ok(reports) = first_reports(alloc, all_accesses(accesses)) else {
+            drop(board);
+            drop(tasks);
+            drop(logs);
+            return Err(AllocError);
+        };
+        let Ok(sites) = Arc::try_clone(&prepared.sites) else {
+            drop(board);
+            drop(tasks);
+            drop(logs);
+            drop(reports);
+            return Err(AllocError);
+        };
         Ok(World {
             board,
             tasks,

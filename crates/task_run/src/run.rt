@@ -112,10 +112,30 @@ impl<'a> TaskRun<'a> {
         let task = &program.tasks.as_slice()[number as usize];
         let registers = task.registers.as_slice().len();
         let layout = Arc::try_clone(&prepared.layout)?;
-        let sites = Arc::try_clone(&prepared.sites)?;
-        let walk = Walk::new(alloc, task.body.as_slice())?;
-        let progress = Progress::new(alloc, registers, variables.len())?;
-        let checker = prepared.checker(alloc, number)?;
+        // What is dropped where memory is refused is dropped by calls: at a `?` the proof follows the drop of all that
+        // is in it.
+        let Ok(sites) = Arc::try_clone(&prepared.sites) else {
+            drop(layout);
+            return Err(AllocError);
+        };
+        let Ok(walk) = Walk::new(alloc, task.body.as_slice()) else {
+            drop(layout);
+            drop(sites);
+            return Err(AllocError);
+        };
+        let Ok(progress) = Progress::new(alloc, registers, variables.len()) else {
+            drop(layout);
+            drop(sites);
+            drop(walk);
+            return Err(AllocError);
+        };
+        let Ok(checker) = prepared.checker(alloc, number) else {
+            drop(layout);
+            drop(sites);
+            drop(walk);
+            drop(progress);
+            return Err(AllocError);
+        };
         let mut machine = Machine {
             task: number,
             rules: prepared.rules,

@@ -31,18 +31,18 @@ returns-clause-leads c = λ settings prepared.
     let can = c.law_runs_begin.ensures.can run settings.places.items c.requires.limits refl prepared.fit prepared.some_slots prepared.turns in
     let list = c.law_runs_begin.ensures.list run can prepared.sites in
     let are = c.as_slice-accesses.ensures.value ∙ prepared.accesses in
-    let space = room_for run c.as_slice-accesses.result.now are c.all_accesses.result (vec_capacity c.in_ok-reports.reports)
-    c.all_accesses.ensures.is c.in_ok-reports.ensures.room in
-    subst (λ (sites : AccessMap). LeadsToAll (run_of c.args.program.now settings sites) [] c.in_ok-board.board c.in_ok-tasks.tasks.items 0
-    c.in_ok-logs.logs.items c.in_ok-reports.reports.items (vec_capacity c.in_ok-reports.reports)) (sym c.in_ok-sites.ensures)
-    (first_world run c.in_ok-board.board c.in_ok-tasks.tasks.items c.in_ok-logs.logs.items c.in_ok-reports.reports.items
-    (vec_capacity c.in_ok-reports.reports)
-    can list (c.in_ok-board.ensures settings (sites_in c.args.prepared.now) prepared) (c.in_ok-tasks.ensures.led settings prepared)
-    (first_kept c.law_steps_are_kept.ensures.none run list c.in_ok-logs.logs.items c.in_ok-reports.reports.items
-    (vec_capacity c.in_ok-reports.reports)
-    (c.in_ok-logs.ensures.all ∙ all_begun run c.as_slice-accesses.result.now are)
-    (each_kept run c.as_slice-accesses.result.now are c.in_ok-logs.logs.items c.in_ok-logs.ensures.each) c.in_ok-reports.ensures.empty space)
-    (first_points c.law_steps_are_kept.ensures.none run list c.in_ok-tasks.tasks.items c.in_ok-tasks.ensures.points))
+    let space = room_for run c.as_slice-accesses.result.now are c.all_accesses.result (vec_capacity c.in-Ok-first_reports.reports)
+    c.all_accesses.ensures.is c.in-Ok-first_reports.ensures.room in
+    subst (λ (sites : AccessMap). LeadsToAll (run_of c.args.program.now settings sites) [] c.in_ok-board.board c.in-Ok.tasks.items 0
+    c.in-Ok-first_logs.logs.items c.in-Ok-first_reports.reports.items (vec_capacity c.in-Ok-first_reports.reports)) (sym c.in-Ok-try_clone.ensures)
+    (first_world run c.in_ok-board.board c.in-Ok.tasks.items c.in-Ok-first_logs.logs.items c.in-Ok-first_reports.reports.items
+    (vec_capacity c.in-Ok-first_reports.reports)
+    can list (c.in_ok-board.ensures settings (sites_in c.args.prepared.now) prepared) (c.in-Ok.ensures.led settings prepared)
+    (first_kept c.law_steps_are_kept.ensures.none run list c.in-Ok-first_logs.logs.items c.in-Ok-first_reports.reports.items
+    (vec_capacity c.in-Ok-first_reports.reports)
+    (c.in-Ok-first_logs.ensures.all ∙ all_begun run c.as_slice-accesses.result.now are)
+    (each_kept run c.as_slice-accesses.result.now are c.in-Ok-first_logs.logs.items c.in-Ok-first_logs.ensures.each) c.in-Ok-first_reports.ensures.empty space)
+    (first_points c.law_steps_are_kept.ensures.none run list c.in-Ok.tasks.items c.in-Ok.ensures.points))
 
 pub invariant_of-result : goal.invariant_of-result
 invariant_of-result c =
@@ -52,19 +52,19 @@ invariant_of-result c =
     let can = c.law_runs_begin.ensures.can run settings.places.items c.requires.limits refl prepared.fit prepared.some_slots prepared.turns in
     let list = c.law_runs_begin.ensures.list run can prepared.sites in
     let are = c.as_slice-accesses.ensures.value ∙ prepared.accesses in
-    let space = room_for run c.as_slice-accesses.result.now are c.all_accesses.result (vec_capacity c.in_ok-reports.reports)
-    c.all_accesses.ensures.is c.in_ok-reports.ensures.room in
+    let space = room_for run c.as_slice-accesses.result.now are c.all_accesses.result (vec_capacity c.in-Ok-first_reports.reports)
+    c.all_accesses.ensures.is c.in-Ok-first_reports.ensures.room in
     record {
       led = merely (record {
         run = run;
         records = [];
-        leads = first_world run c.in_ok-board.board c.in_ok-tasks.tasks.items c.in_ok-logs.logs.items c.in_ok-reports.reports.items
-            (vec_capacity c.in_ok-reports.reports)
-            can list (c.in_ok-board.ensures settings (sites_in c.args.prepared.now) prepared) (c.in_ok-tasks.ensures.led settings prepared)
-            (first_kept c.law_steps_are_kept.ensures.none run list c.in_ok-logs.logs.items c.in_ok-reports.reports.items
-            (vec_capacity c.in_ok-reports.reports)
-            (c.in_ok-logs.ensures.all ∙ all_begun run c.as_slice-accesses.result.now are)
-            (each_kept run c.as_slice-accesses.result.now are c.in_ok-logs.logs.items c.in_ok-logs.ensures.each) c.in_ok-reports.ensures.empty space)
-            (first_points c.law_steps_are_kept.ensures.none run list c.in_ok-tasks.tasks.items c.in_ok-tasks.ensures.points);
+        leads = first_world run c.in_ok-board.board c.in-Ok.tasks.items c.in-Ok-first_logs.logs.items c.in-Ok-first_reports.reports.items
+            (vec_capacity c.in-Ok-first_reports.reports)
+            can list (c.in_ok-board.ensures settings (sites_in c.args.prepared.now) prepared) (c.in-Ok.ensures.led settings prepared)
+            (first_kept c.law_steps_are_kept.ensures.none run list c.in-Ok-first_logs.logs.items c.in-Ok-first_reports.reports.items
+            (vec_capacity c.in-Ok-first_reports.reports)
+            (c.in-Ok-first_logs.ensures.all ∙ all_begun run c.as_slice-accesses.result.now are)
+            (each_kept run c.as_slice-accesses.result.now are c.in-Ok-first_logs.logs.items c.in-Ok-first_logs.ensures.each) c.in-Ok-first_reports.ensures.empty space)
+            (first_points c.law_steps_are_kept.ensures.none run list c.in-Ok.tasks.items c.in-Ok.ensures.points);
       });
     }

@@ -64,19 +64,19 @@ returns-clause-leads c = λ settings task prepared is.
       rules = c.args.prepared.now.rules;
       variables = c.as_slice-variables.result;
       layout = c.in_ok-layout.layout;
-      sites = c.in_ok-sites.sites;
-      walk = c.in_ok-walk.walk;
-      progress = c.in_ok-progress.progress;
+      sites = c.in-Ok.sites;
+      walk = c.in-Ok-new.walk;
+      progress = c.in-Ok-new-2.progress;
       in_force = 0;
-      checker = c.in_ok-checker.checker;
+      checker = c.in-Ok-checker.checker;
       begins = None;
     } in
     let new : TaskRun = record { machine = c.advance.new.self; stage = c.advance.new.stage; news = record { fell = None; latest = Other } } in
     subst (λ (t : Task). Leads s (length t.registers) (block_of t.body.items) [] new) (some_same read task (sym stands ∙ is))
     (starts s registers (block_of read.body.items) machine new
     (first_stands s registers machine
-    (record { task = refl; rules = prepared.rules; variables = c.as_slice-variables.ensures; layout = lays; sites = c.in_ok-sites.ensures })
-    (rw (← c.as_slice-variables.ensures, ← c.as_slice-registers.ensures) c.in_ok-progress.ensures) c.in_ok-checker.ensures.context refl
-    (rw (← prepared.cells, ← prepared.rules) (c.in_ok-checker.ensures.rests (sites_in c.args.prepared.now))))
-    (λ before records after rest. rw (← c.as_slice-2.ensures.value) (c.in_ok-walk.ensures.left s before records after rest))
+    (record { task = refl; rules = prepared.rules; variables = c.as_slice-variables.ensures; layout = lays; sites = c.in-Ok.ensures })
+    (rw (← c.as_slice-variables.ensures, ← c.as_slice-registers.ensures) c.in-Ok-new-2.ensures) c.in-Ok-checker.ensures.context refl
+    (rw (← prepared.cells, ← prepared.rules) (c.in-Ok-checker.ensures.rests (sites_in c.args.prepared.now))))
+    (λ before records after rest. rw (← c.as_slice-2.ensures.value) (c.in-Ok-new.ensures.left s before records after rest))
     (λ before stands. c.advance.ensures.begins s before stands))
