@@ -1,15 +1,14 @@
 //! Expressions, appended to a text.
 
-ghost use Rattle.std.specs.Prelude.{◌≡◌, ◌++◌, ◌∷◌, [], IfOk, OnOk};
+ghost use Rattle.std.specs.Prelude.{◌≡◌, ◌++◌, OnOk, codes};
+ghost use Rattle.std.specs.Fmt.{decimal};
 ghost use Rattle.std.specs.String.{string_bytes};
-ghost use Rattle.litmus_syntax.specs.PrintedForm.{binary_sign, expression_text, fetch_text, load_text, loading_text, name_at, pure_text, read_text, repeated, unary_sign, variable_name};
+ghost use Rattle.litmus_syntax.specs.PrintedForm.{◌⧺◌, expression_text, fetch_text, load_text, loading_text, name_at, pure_text, read_text, repeated, variable_name};
 ghost use Rattle.litmus_syntax.specs.Views.{expression_of, fetch_of, load_of, loading_of, pure_of};
 
 use crate::scope::Scope;
-use litmus_syntax::{
-    BinaryOperator, Expression, Fetch, Load, Loading, Name, Pure, ReadForm, Variable,
-};
-use std::alloc::{AllocError, Global};
+use litmus_syntax::{Expression, Fetch, Load, Loading, Name, Pure, ReadForm, Variable};
+use std::alloc::AllocError;
 use std::fmt::Write;
 
 /// Appends a text.
@@ -28,6 +27,34 @@ fn append_repeated(text: &mut String, count: u64, part: &str) -> Result<(), Allo
         append(text, part)?;
     }
     Ok(())
+}
+
+/// Appends a part between two others.
+pub fn append_between(
+    text: &mut String,
+    before: &str,
+    part: &str,
+    after: &str,
+) -> Result<(), AllocError>
+    ensures { OnOk result
+        (string_bytes text.new ≡ string_bytes text.old
+        ++ (before.now ⧺ part.now ⧺ after.now)) }
+{
+    write!(text, "{before}{part}{after}")
+}
+
+/// Appends a number between two parts.
+pub fn append_number(
+    text: &mut String,
+    before: &str,
+    number: u64,
+    after: &str,
+) -> Result<(), AllocError>
+    ensures { OnOk result
+        (string_bytes text.new ≡ string_bytes text.old
+        ++ (before.now ⧺ decimal number ⧺ after.now)) }
+{
+    write!(text, "{before}{number}{after}")
 }
 
 /// The name of a number; one that isn't there has an empty name.
@@ -51,48 +78,92 @@ pub fn variable_of(variables: &[Variable], number: usize) -> &str
 }
 
 /// Appends an expression without a load.
-fn append_pure(text: &mut String, registers: &[Name], pure: &Pure) -> Result<(), AllocError>
+pub fn append_pure(text: &mut String, registers: &[Name], pure: &Pure) -> Result<(), AllocError>
     ensures { OnOk result
         (string_bytes text.new ≡ string_bytes text.old
         ++ pure_text registers.now (pure_of pure.now)) }
 {
     match pure {
-        Pure::Number(number) => write!(text, "{number}"),
+        Pure::Number(number) => append_number(text, "", *number, ""),
         Pure::Register(register) => append(text, name_of(registers, *register)),
         // Each operator has its own parentheses, so that what is printed reads back as the same tree.
         Pure::Unary(operator, operand) => {
-            append(text, "(")?;
-            append(text, operator.sign())?;
+            append_between(text, "(", operator.sign(), "")?;
             append_pure(text, registers, operand)?;
             append(text, ")")
         }
         Pure::Binary(operator, left, right) => {
             append(text, "(")?;
             append_pure(text, registers, left)?;
-            append_sign(text, *operator)?;
+            append_between(text, " ", operator.sign(), " ")?;
             append_pure(text, registers, right)?;
             append(text, ")")
         }
     }
 }
 
-/// Appends a binary operator, with one blank on each side.
-fn append_sign(text: &mut String, operator: BinaryOperator) -> Result<(), AllocError>
+/// Appends an expression without a load, and a part after it.
+fn append_pure_before(
+    text: &mut String,
+    registers: &[Name],
+    pure: &Pure,
+    after: &str,
+) -> Result<(), AllocError>
     ensures { OnOk result
-        (string_bytes text.new ≡ string_bytes text.old ++ 32 ∷ binary_sign operator ++ 32 ∷ []) }
+        (string_bytes text.new ≡ string_bytes text.old
+        ++ (pure_text registers.now (pure_of pure.now) ⧺ after.now)) }
 {
-    append(text, " ")?;
-    append(text, operator.sign())?;
-    append(text, " ")
+    append_pure(text, registers, pure)?;
+    append(text, after)
 }
 
-/// The text of an expression without a load.
-pub fn pure_string(alloc: Global, registers: &[Name], pure: &Pure) -> Result<String, AllocError>
-    ensures { IfOk result (λ text. string_bytes text ≡ pure_text registers.now (pure_of pure.now)) }
+/// Appends a name and a value, with words before, between and after them.
+pub fn append_valued(
+    text: &mut String,
+    registers: &[Name],
+    words: (&str, &str, &str),
+    name: &str,
+    value: &Pure,
+) -> Result<(), AllocError>
+    ensures { OnOk result
+        (string_bytes text.new ≡ string_bytes text.old
+        ++ (words.entry.0.now ⧺ name.now ⧺ words.entry.1.now
+        ⧺ pure_text registers.now (pure_of value.now) ⧺ words.entry.2.now)) }
 {
-    let mut text = String::new(alloc);
-    append_pure(&mut text, registers, pure)?;
-    Ok(text)
+    let (before, between, after) = words;
+    append_between(text, before, name, between)?;
+    append_pure_before(text, registers, value, after)
+}
+
+/// Appends a value and a name, with words before, between and after them.
+pub fn append_value_first(
+    text: &mut String,
+    registers: &[Name],
+    words: (&str, &str, &str),
+    value: &Pure,
+    name: &str,
+) -> Result<(), AllocError>
+    ensures { OnOk result
+        (string_bytes text.new ≡ string_bytes text.old
+        ++ (words.entry.0.now ⧺ pure_text registers.now (pure_of value.now)
+        ⧺ words.entry.1.now ⧺ name.now ⧺ words.entry.2.now)) }
+{
+    let (before, between, after) = words;
+    append(text, before)?;
+    append_pure_before(text, registers, value, between)?;
+    append_between(text, name, after, "")
+}
+
+/// What stands before and after the variable that is read.
+fn read_words(form: ReadForm) -> (&'static str, &'static str)
+    ensures { (name : _) → read_text form name ≡ result.0.now ⧺ name ⧺ result.1.now }
+{
+    match form {
+        ReadForm::Plain => ("*", ""),
+        ReadForm::Once => ("READ_ONCE(*", ")"),
+        ReadForm::Acquire => ("smp_load_acquire(", ")"),
+        ReadForm::Atomic => ("atomic_read(", ")"),
+    }
 }
 
 /// Appends a read of a variable.
@@ -100,12 +171,40 @@ fn append_read(text: &mut String, form: ReadForm, name: &str) -> Result<(), Allo
     ensures { OnOk result
         (string_bytes text.new ≡ string_bytes text.old ++ read_text form name.now) }
 {
-    match form {
-        ReadForm::Plain => write!(text, "*{name}"),
-        ReadForm::Once => write!(text, "READ_ONCE(*{name})"),
-        ReadForm::Acquire => write!(text, "smp_load_acquire({name})"),
-        ReadForm::Atomic => write!(text, "atomic_read({name})"),
-    }
+    let (before, after) = read_words(form);
+    append_between(text, before, name, after)
+}
+
+/// Appends a compare-exchange.
+fn append_compare_exchange(
+    text: &mut String,
+    registers: &[Name],
+    name: &str,
+    expected: &Pure,
+    replacement: &Pure,
+) -> Result<(), AllocError>
+    ensures { OnOk result
+        (string_bytes text.new ≡ string_bytes text.old
+        ++ (codes "cmpxchg(" ⧺ name.now ⧺ codes ", " ⧺ pure_text registers.now (pure_of expected.now)
+        ⧺ codes ", " ⧺ pure_text registers.now (pure_of replacement.now) ⧺ codes ")")) }
+{
+    append_valued(text, registers, ("cmpxchg(", ", ", ", "), name, expected)?;
+    append_pure_before(text, registers, replacement, ")")
+}
+
+/// Appends an exchange.
+fn append_exchange(
+    text: &mut String,
+    registers: &[Name],
+    name: &str,
+    value: &Pure,
+) -> Result<(), AllocError>
+    ensures { OnOk result
+        (string_bytes text.new ≡ string_bytes text.old
+        ++ (codes "xchg(" ⧺ name.now
+        ⧺ codes ", " ⧺ pure_text registers.now (pure_of value.now) ⧺ codes ")")) }
+{
+    append_valued(text, registers, ("xchg(", ", ", ")"), name, value)
 }
 
 /// Appends what a load does.
@@ -120,8 +219,7 @@ fn append_fetch(text: &mut String, scope: Scope<'_>, fetch: &Fetch) -> Result<()
         }
         Fetch::Exchange { variable, value } => {
             let name = variable_of(scope.variables, *variable);
-            let value = pure_string(scope.alloc, scope.registers, value)?;
-            write!(text, "xchg({name}, {value})")
+            append_exchange(text, scope.registers, name, value)
         }
         Fetch::CompareExchange {
             variable,
@@ -129,15 +227,13 @@ fn append_fetch(text: &mut String, scope: Scope<'_>, fetch: &Fetch) -> Result<()
             replacement,
         } => {
             let name = variable_of(scope.variables, *variable);
-            let expected = pure_string(scope.alloc, scope.registers, expected)?;
-            let replacement = pure_string(scope.alloc, scope.registers, replacement)?;
-            write!(text, "cmpxchg({name}, {expected}, {replacement})")
+            append_compare_exchange(text, scope.registers, name, expected, replacement)
         }
     }
 }
 
 /// Appends a load.
-fn append_load(text: &mut String, scope: Scope<'_>, load: &Load) -> Result<(), AllocError>
+pub fn append_load(text: &mut String, scope: Scope<'_>, load: &Load) -> Result<(), AllocError>
     ensures { OnOk result
         (string_bytes text.new ≡ string_bytes text.old
         ++ load_text scope.entry.variables.now scope.entry.registers.now (load_of load.now)) }
@@ -157,52 +253,39 @@ fn append_loading(text: &mut String, scope: Scope<'_>, loading: &Loading) -> Res
     match loading {
         Loading::Load(load) => append_load(text, scope, load),
         Loading::Unary(operator, operand) => {
-            append(text, "(")?;
-            append(text, operator.sign())?;
+            append_between(text, "(", operator.sign(), "")?;
             append_loading(text, scope, operand)?;
             append(text, ")")
         }
         Loading::Left(operator, left, right) => {
             append(text, "(")?;
             append_loading(text, scope, left)?;
-            append_sign(text, *operator)?;
-            append_pure(text, scope.registers, right)?;
-            append(text, ")")
+            append_between(text, " ", operator.sign(), " ")?;
+            append_pure_before(text, scope.registers, right, ")")
         }
         Loading::Right(operator, left, right) => {
             append(text, "(")?;
             append_pure(text, scope.registers, left)?;
-            append_sign(text, *operator)?;
+            append_between(text, " ", operator.sign(), " ")?;
             append_loading(text, scope, right)?;
             append(text, ")")
         }
     }
 }
 
-/// The text of a load.
-pub fn load_string(scope: Scope<'_>, load: &Load) -> Result<String, AllocError>
-    ensures { IfOk result
-        (λ text. string_bytes text
-        ≡ load_text scope.entry.variables.now scope.entry.registers.now (load_of load.now)) }
-{
-    let mut text = String::new(scope.alloc);
-    append_load(&mut text, scope, load)?;
-    Ok(text)
-}
-
-/// The text of an expression.
-pub fn expression_string(scope: Scope<'_>, expression: &Expression) -> Result<String, AllocError>
-    ensures { IfOk result
-        (λ text. string_bytes text
-        ≡ expression_text scope.entry.variables.now scope.entry.registers.now
+/// Appends an expression.
+pub fn append_expression(
+    text: &mut String,
+    scope: Scope<'_>,
+    expression: &Expression,
+) -> Result<(), AllocError>
+    ensures { OnOk result
+        (string_bytes text.new ≡ string_bytes text.old
+        ++ expression_text scope.entry.variables.now scope.entry.registers.now
         (expression_of expression.now)) }
 {
     match expression {
-        Expression::Pure(pure) => pure_string(scope.alloc, scope.registers, pure),
-        Expression::Loading(loading) => {
-            let mut text = String::new(scope.alloc);
-            append_loading(&mut text, scope, loading)?;
-            Ok(text)
-        }
+        Expression::Pure(pure) => append_pure(text, scope.registers, pure),
+        Expression::Loading(loading) => append_loading(text, scope, loading),
     }
 }

@@ -1,34 +1,50 @@
 //! Statements, appended to a text line by line.
 
-ghost use Rattle.std.specs.Prelude.{◌≡◌, ◌++◌, IfOk, OnOk, codes};
+ghost use Rattle.std.specs.Prelude.{◌≡◌, ◌++◌, [], IfOk, OnOk, codes, option_map, unwrap_or};
+ghost use Rattle.std.specs.Fmt.{decimal};
 ghost use Rattle.std.specs.String.{string_bytes};
-ghost use Rattle.litmus_syntax.specs.PrintedForm.{assign_text, assignment_text, block_text, call_text, check_function, expression_text, for_head, if_head, line, mark_text, name_at, scope_suffix, statement_text, write_text};
-ghost use Rattle.litmus_syntax.specs.Views.{assignment_of, block_of, expression_of, statement_of};
+ghost use Rattle.litmus_syntax.specs.PrintedForm.{◌⧺◌, assign_text, assignment_text, block_text, call_text, check_function, expression_text, for_head, if_head, line, load_text, mark_text, name_at, scope_suffix, statement_text, write_text};
+ghost use Rattle.litmus_syntax.specs.Views.{assignment_of, block_of, expression_of, load_of, statement_of};
 
 use crate::expression::{
-    append, expression_string, load_string, name_of, pure_string, variable_of,
+    append, append_between, append_expression, append_load, append_number, append_value_first,
+    append_valued, name_of, variable_of,
 };
 use crate::scope::Scope;
-use litmus_syntax::{Assignment, Call, Expression, Mark, Name, Statement, Variable, WriteForm};
+use litmus_syntax::{
+    Assignment, Call, Expression, Load, Mark, Name, Statement, Variable, WriteForm,
+};
 use std::alloc::{AllocError, Global};
 use std::fmt::Write;
 
-/// Appends a write of a value.
-fn append_write(
-    text: &mut String,
-    form: WriteForm,
-    name: &str,
-    value: &str,
-) -> Result<(), AllocError>
-    ensures { OnOk result
-        (string_bytes text.new ≡ string_bytes text.old ++ write_text form name.now value.now) }
+/// What stands before, between and after a variable and the value that is written to it.
+fn write_words(form: WriteForm) -> (&'static str, &'static str, &'static str)
+    ensures { (name : _) → (value : _) → write_text form name value
+        ≡ result.0.now ⧺ name ⧺ result.1.now ⧺ value ⧺ result.2.now }
 {
     match form {
-        WriteForm::Plain => write!(text, "*{name} = {value}"),
-        WriteForm::Once => write!(text, "WRITE_ONCE(*{name}, {value})"),
-        WriteForm::Release => write!(text, "smp_store_release({name}, {value})"),
-        WriteForm::Atomic => write!(text, "atomic_set({name}, {value})"),
+        WriteForm::Plain => ("*", " = ", ""),
+        WriteForm::Once => ("WRITE_ONCE(*", ", ", ")"),
+        WriteForm::Release => ("smp_store_release(", ", ", ")"),
+        WriteForm::Atomic => ("atomic_set(", ", ", ")"),
     }
+}
+
+/// Appends an assignment to a register.
+fn append_to_register(
+    text: &mut String,
+    scope: Scope<'_>,
+    register: usize,
+    value: &Expression,
+) -> Result<(), AllocError>
+    ensures { OnOk result
+        (string_bytes text.new ≡ string_bytes text.old
+        ++ (name_at scope.entry.registers.now register ⧺ codes " = "
+        ⧺ expression_text scope.entry.variables.now scope.entry.registers.now
+        (expression_of value.now))) }
+{
+    append_between(text, name_of(scope.registers, register), " = ", "")?;
+    append_expression(text, scope, value)
 }
 
 /// Appends an assignment.
@@ -44,9 +60,7 @@ fn append_assignment(
 {
     match assignment {
         Assignment::Register { register, value } => {
-            let name = name_of(scope.registers, *register);
-            let value = expression_string(scope, value)?;
-            write!(text, "{name} = {value}")
+            append_to_register(text, scope, *register, value)
         }
         Assignment::Write {
             form,
@@ -54,76 +68,123 @@ fn append_assignment(
             value,
         } => {
             let name = variable_of(scope.variables, *variable);
-            let value = pure_string(scope.alloc, scope.registers, value)?;
-            append_write(text, *form, name, value.as_str())
+            append_valued(text, scope.registers, write_words(*form), name, value)
         }
         Assignment::Add { variable, value } => {
             let name = variable_of(scope.variables, *variable);
-            let value = pure_string(scope.alloc, scope.registers, value)?;
-            write!(text, "*{name} += {value}")
+            append_valued(text, scope.registers, ("*", " += ", ""), name, value)
         }
         Assignment::Increment { variable } => {
-            let name = variable_of(scope.variables, *variable);
-            write!(text, "(*{name})++")
+            append_between(text, "(*", variable_of(scope.variables, *variable), ")++")
         }
         Assignment::AtomicAdd { value, variable } => {
             let name = variable_of(scope.variables, *variable);
-            let value = pure_string(scope.alloc, scope.registers, value)?;
-            write!(text, "atomic_add({value}, {name})")
+            append_value_first(
+                text,
+                scope.registers,
+                ("atomic_add(", ", ", ")"),
+                value,
+                name,
+            )
         }
-        Assignment::AtomicIncrement { variable } => {
-            let name = variable_of(scope.variables, *variable);
-            write!(text, "atomic_inc({name})")
-        }
-        Assignment::AtomicDecrement { variable } => {
-            let name = variable_of(scope.variables, *variable);
-            write!(text, "atomic_dec({name})")
-        }
+        Assignment::AtomicIncrement { variable } => append_between(
+            text,
+            "atomic_inc(",
+            variable_of(scope.variables, *variable),
+            ")",
+        ),
+        Assignment::AtomicDecrement { variable } => append_between(
+            text,
+            "atomic_dec(",
+            variable_of(scope.variables, *variable),
+            ")",
+        ),
     }
 }
 
-/// The text of an assignment, inside `data_race( )` or not.
-fn assignment_string(
-    scope: Scope<'_>,
-    data_race: bool,
-    assignment: &Assignment,
-) -> Result<String, AllocError>
-    ensures { IfOk result
-        (λ text. string_bytes text
-        ≡ assign_text data_race (assignment_text scope.entry.variables.now scope.entry.registers.now
-        (assignment_of assignment.now))) }
+/// What stands before and after an assignment, inside `data_race( )` or not.
+fn race_words(data_race: bool) -> (&'static str, &'static str)
+    ensures { (text : _) → assign_text data_race text ≡ result.0.now ⧺ text ⧺ result.1.now }
 {
-    let mut text = String::new(scope.alloc);
     if data_race {
-        append(&mut text, "data_race(")?;
-        append_assignment(&mut text, scope, assignment)?;
-        append(&mut text, ")")?;
+        ("data_race(", ")")
     } else {
-        append_assignment(&mut text, scope, assignment)?;
+        ("", "")
     }
-    Ok(text)
+}
+
+/// What a mark is called, up to its count, and the count.
+fn mark_words(mark: Mark) -> (&'static str, Option<u64>)
+    ensures { mark_text mark
+        ≡ result.0.now ⧺ unwrap_or (option_map decimal result.1) [] ⧺ codes ")" }
+{
+    match mark {
+        Mark::Disable => ("kcsan_disable_current(", None),
+        Mark::Enable => ("kcsan_enable_current(", None),
+        Mark::NestOpen => ("kcsan_nestable_atomic_begin(", None),
+        Mark::NestClose => ("kcsan_nestable_atomic_end(", None),
+        Mark::FlatBegin => ("kcsan_flat_atomic_begin(", None),
+        Mark::FlatEnd => ("kcsan_flat_atomic_end(", None),
+        Mark::Next(count) => ("kcsan_atomic_next(", Some(count)),
+    }
 }
 
 /// Appends a mark.
 fn append_mark(text: &mut String, mark: Mark) -> Result<(), AllocError>
     ensures { OnOk result (string_bytes text.new ≡ string_bytes text.old ++ mark_text mark) }
 {
-    match mark {
-        Mark::Disable => append(text, "kcsan_disable_current()"),
-        Mark::Enable => append(text, "kcsan_enable_current()"),
-        Mark::NestOpen => append(text, "kcsan_nestable_atomic_begin()"),
-        Mark::NestClose => append(text, "kcsan_nestable_atomic_end()"),
-        Mark::FlatBegin => append(text, "kcsan_flat_atomic_begin()"),
-        Mark::FlatEnd => append(text, "kcsan_flat_atomic_end()"),
-        Mark::Next(count) => write!(text, "kcsan_atomic_next({count})"),
+    let (name, count) = mark_words(mark);
+    match count {
+        Some(count) => append_number(text, name, count, ")"),
+        None => append_between(text, name, "", ")"),
     }
 }
 
-/// What the name of an assertion ends in that holds to the end of its block.
-fn suffix(scoped: bool) -> &'static str
-    ensures { result.now ≡ scope_suffix scoped }
+/// What stands before the variable of an assertion that no other task writes.
+fn writer_words(scoped: bool) -> &'static str
+    ensures { result.now ≡ codes "ASSERT_EXCLUSIVE_WRITER" ⧺ scope_suffix scoped ⧺ codes "(*" }
 {
-    if scoped { "_SCOPED" } else { "" }
+    if scoped {
+        "ASSERT_EXCLUSIVE_WRITER_SCOPED(*"
+    } else {
+        "ASSERT_EXCLUSIVE_WRITER(*"
+    }
+}
+
+/// What stands before the variable of an assertion that no other task accesses.
+fn access_words(scoped: bool) -> &'static str
+    ensures { result.now ≡ codes "ASSERT_EXCLUSIVE_ACCESS" ⧺ scope_suffix scoped ⧺ codes "(*" }
+{
+    if scoped {
+        "ASSERT_EXCLUSIVE_ACCESS_SCOPED(*"
+    } else {
+        "ASSERT_EXCLUSIVE_ACCESS(*"
+    }
+}
+
+/// What stands before the variable of a check.
+fn check_words(write: bool) -> &'static str
+    ensures { result.now ≡ check_function write ++ codes "(" }
+{
+    if write {
+        "kcsan_check_write("
+    } else {
+        "kcsan_check_read("
+    }
+}
+
+/// Appends a call with a variable and a number.
+fn append_numbered(
+    text: &mut String,
+    before: &str,
+    name: &str,
+    number: u64,
+) -> Result<(), AllocError>
+    ensures { OnOk result
+        (string_bytes text.new ≡ string_bytes text.old
+        ++ (before.now ⧺ name.now ⧺ codes ", " ⧺ decimal number ⧺ codes ")")) }
+{
+    write!(text, "{before}{name}, {number})")
 }
 
 /// Appends a call.
@@ -132,31 +193,24 @@ fn append_call(text: &mut String, variables: &[Variable], call: Call) -> Result<
         (string_bytes text.new ≡ string_bytes text.old ++ call_text variables.now call) }
 {
     match call {
-        Call::Barrier(barrier) => {
-            let name = barrier.name();
-            write!(text, "{name}()")
-        }
+        Call::Barrier(barrier) => append_between(text, barrier.name(), "()", ""),
         Call::Lock { variable } => {
-            let name = variable_of(variables, variable);
-            write!(text, "spin_lock({name})")
+            append_between(text, "spin_lock(", variable_of(variables, variable), ")")
         }
         Call::Unlock { variable } => {
-            let name = variable_of(variables, variable);
-            write!(text, "spin_unlock({name})")
+            append_between(text, "spin_unlock(", variable_of(variables, variable), ")")
         }
         Call::AssertWriter { variable, scoped } => {
             let name = variable_of(variables, variable);
-            let suffix = suffix(scoped);
-            write!(text, "ASSERT_EXCLUSIVE_WRITER{suffix}(*{name})")
+            append_between(text, writer_words(scoped), name, ")")
         }
         Call::AssertAccess { variable, scoped } => {
             let name = variable_of(variables, variable);
-            let suffix = suffix(scoped);
-            write!(text, "ASSERT_EXCLUSIVE_ACCESS{suffix}(*{name})")
+            append_between(text, access_words(scoped), name, ")")
         }
         Call::AssertBits { variable, mask } => {
             let name = variable_of(variables, variable);
-            write!(text, "ASSERT_EXCLUSIVE_BITS(*{name}, {mask})")
+            append_numbered(text, "ASSERT_EXCLUSIVE_BITS(*", name, mask)
         }
         Call::Mark(mark) => append_mark(text, mark),
         Call::Check {
@@ -165,30 +219,9 @@ fn append_call(text: &mut String, variables: &[Variable], call: Call) -> Result<
             size,
         } => {
             let name = variable_of(variables, variable);
-            let function = check_name(write);
-            write!(text, "{function}({name}, {size})")
+            append_numbered(text, check_words(write), name, size)
         }
     }
-}
-
-/// What a check is called.
-fn check_name(write: bool) -> &'static str
-    ensures { result.now ≡ check_function write }
-{
-    if write {
-        "kcsan_check_write"
-    } else {
-        "kcsan_check_read"
-    }
-}
-
-/// The text of a call.
-fn call_string(alloc: Global, variables: &[Variable], call: Call) -> Result<String, AllocError>
-    ensures { IfOk result (λ text. string_bytes text ≡ call_text variables.now call) }
-{
-    let mut text = String::new(alloc);
-    append_call(&mut text, variables, call)?;
-    Ok(text)
 }
 
 /// Appends a line behind tabs.
@@ -196,53 +229,113 @@ fn append_line(text: &mut String, tabs: &str, content: &str) -> Result<(), Alloc
     ensures { OnOk result
         (string_bytes text.new ≡ string_bytes text.old ++ line tabs.now content.now) }
 {
-    write!(text, "{tabs}{content}\n")
+    append_between(text, tabs, content, "\n")
 }
 
-/// Appends the line of a statement without a block.
-fn append_simple(text: &mut String, tabs: &str, content: &str) -> Result<(), AllocError>
+/// Appends the line of a load.
+fn append_load_line(
+    text: &mut String,
+    scope: Scope<'_>,
+    tabs: &str,
+    load: &Load,
+) -> Result<(), AllocError>
     ensures { OnOk result
         (string_bytes text.new ≡ string_bytes text.old
-        ++ line tabs.now (content.now ++ codes ";")) }
+        ++ line tabs.now (load_text scope.entry.variables.now scope.entry.registers.now
+        (load_of load.now) ++ codes ";")) }
 {
-    write!(text, "{tabs}{content};\n")
+    append(text, tabs)?;
+    append_load(text, scope, load)?;
+    append(text, ";\n")
 }
 
-/// The first line of an `if`.
-fn if_string(scope: Scope<'_>, condition: &Expression) -> Result<String, AllocError>
-    ensures { IfOk result
-        (λ text. string_bytes text
-        ≡ if_head (expression_text scope.entry.variables.now scope.entry.registers.now
-        (expression_of condition.now))) }
+/// Appends the line of an assignment, inside `data_race( )` or not.
+fn append_assignment_line(
+    text: &mut String,
+    scope: Scope<'_>,
+    tabs: &str,
+    data_race: bool,
+    assignment: &Assignment,
+) -> Result<(), AllocError>
+    ensures { OnOk result
+        (string_bytes text.new ≡ string_bytes text.old
+        ++ line tabs.now (assign_text data_race
+        (assignment_text scope.entry.variables.now scope.entry.registers.now
+        (assignment_of assignment.now)) ++ codes ";")) }
 {
-    let condition = expression_string(scope, condition)?;
-    let mut text = String::new(scope.alloc);
-    write!(text, "if ({condition}) {{")?;
-    Ok(text)
+    let (before, after) = race_words(data_race);
+    append_between(text, tabs, before, "")?;
+    append_assignment(text, scope, assignment)?;
+    append_between(text, after, ";\n", "")
+}
+
+/// Appends the line of a call.
+fn append_call_line(
+    text: &mut String,
+    variables: &[Variable],
+    tabs: &str,
+    call: Call,
+) -> Result<(), AllocError>
+    ensures { OnOk result
+        (string_bytes text.new ≡ string_bytes text.old
+        ++ line tabs.now (call_text variables.now call ++ codes ";")) }
+{
+    append(text, tabs)?;
+    append_call(text, variables, call)?;
+    append(text, ";\n")
+}
+
+/// Appends the first line of an `if`.
+fn append_if(
+    text: &mut String,
+    scope: Scope<'_>,
+    tabs: &str,
+    condition: &Expression,
+) -> Result<(), AllocError>
+    ensures { OnOk result
+        (string_bytes text.new ≡ string_bytes text.old
+        ++ line tabs.now (if_head
+        (expression_text scope.entry.variables.now scope.entry.registers.now
+        (expression_of condition.now)))) }
+{
+    append_between(text, tabs, "if (", "")?;
+    append_expression(text, scope, condition)?;
+    append(text, ") {\n")
 }
 
 /// Appends the first line of a loop.
-fn append_for(text: &mut String, name: &str, turns: u64) -> Result<(), AllocError>
-    ensures { OnOk result
-        (string_bytes text.new ≡ string_bytes text.old ++ for_head name.now turns) }
-{
-    write!(text, "for ({name} = 0; {name} < {turns}; {name}++) {{")?;
-    Ok(())
-}
-
-/// The first line of a loop.
-fn for_string(
-    alloc: Global,
+fn append_for(
+    text: &mut String,
     registers: &[Name],
+    tabs: &str,
     register: usize,
     turns: u64,
-) -> Result<String, AllocError>
-    ensures { IfOk result
-        (λ text. string_bytes text ≡ for_head (name_at registers.now register) turns) }
+) -> Result<(), AllocError>
+    ensures { OnOk result
+        (string_bytes text.new ≡ string_bytes text.old
+        ++ line tabs.now (for_head (name_at registers.now register) turns)) }
+{
+    let name = name_of(registers, register);
+    write!(
+        text,
+        "{tabs}for ({name} = 0; {name} < {turns}; {name}++) {{\n"
+    )
+}
+
+/// One tab more.
+fn deeper(alloc: Global, tabs: &str) -> Result<String, AllocError>
+    ensures { IfOk result (λ text. string_bytes text ≡ tabs.now ++ codes "\t") }
 {
     let mut text = String::new(alloc);
-    append_for(&mut text, name_of(registers, register), turns)?;
-    Ok(text)
+    let done = append_between(&mut text, tabs, "\t", "");
+    match done {
+        Ok(()) => Ok(text),
+        Err(error) => {
+            // By a call: where the end drops it, the proof follows the drop of all that is in it.
+            drop(text);
+            Err(error)
+        }
+    }
 }
 
 /// Appends the lines of a statement, behind a tab for each open block.
@@ -259,69 +352,72 @@ fn append_statement(
         tabs.now (statement_of statement.now)) }
 {
     match statement {
-        Statement::Load(load) => {
-            let content = load_string(scope, load)?;
-            append_simple(text, tabs, content.as_str())
-        }
+        Statement::Load(load) => append_load_line(text, scope, tabs, load),
         Statement::Assign {
             data_race,
             assignment,
-        } => {
-            let content = assignment_string(scope, *data_race, assignment)?;
-            append_simple(text, tabs, content.as_str())
-        }
-        Statement::Call(call) => {
-            let content = call_string(scope.alloc, scope.variables, *call)?;
-            append_simple(text, tabs, content.as_str())
-        }
+        } => append_assignment_line(text, scope, tabs, *data_race, assignment),
+        Statement::Call(call) => append_call_line(text, scope.variables, tabs, *call),
         Statement::If { condition, body } => {
-            let head = if_string(scope, condition)?;
-            append_headed(text, scope, tabs, head.as_str(), body.as_slice())?;
-            append_line(text, tabs, "}")?;
-            Ok(())
+            append_if(text, scope, tabs, condition)?;
+            append_closed(text, scope, tabs, body.as_slice())
         }
         Statement::IfElse {
             condition,
             body,
             otherwise,
         } => {
-            let head = if_string(scope, condition)?;
-            append_headed(text, scope, tabs, head.as_str(), body.as_slice())?;
-            append_headed(text, scope, tabs, "} else {", otherwise.as_slice())?;
-            append_line(text, tabs, "}")?;
-            Ok(())
+            append_if(text, scope, tabs, condition)?;
+            append_inner(text, scope, tabs, body.as_slice())?;
+            append_line(text, tabs, "} else {")?;
+            append_closed(text, scope, tabs, otherwise.as_slice())
         }
         Statement::For {
             register,
             turns,
             body,
         } => {
-            let head = for_string(scope.alloc, scope.registers, *register, *turns)?;
-            append_headed(text, scope, tabs, head.as_str(), body.as_slice())?;
-            append_line(text, tabs, "}")?;
-            Ok(())
+            append_for(text, scope.registers, tabs, *register, *turns)?;
+            append_closed(text, scope, tabs, body.as_slice())
         }
     }
 }
 
-/// Appends a line, and the lines of the block that it opens, behind one more tab.
+/// Appends the lines of a block behind one more tab, and the line that closes it.
 #[cycle(block)]
-fn append_headed(
+fn append_closed(
     text: &mut String,
     scope: Scope<'_>,
     tabs: &str,
-    head: &str,
     block: &[Statement],
 ) -> Result<(), AllocError>
     ensures { OnOk result
         (string_bytes text.new ≡ string_bytes text.old
-        ++ line tabs.now head.now ++ block_text scope.entry.variables.now scope.entry.registers.now
+        ++ (block_text scope.entry.variables.now scope.entry.registers.now
+        (tabs.now ++ codes "\t") (block_of block.now) ⧺ line tabs.now (codes "}"))) }
+{
+    append_inner(text, scope, tabs, block)?;
+    append_line(text, tabs, "}")
+}
+
+/// Appends the lines of a block behind one more tab.
+#[cycle(block)]
+fn append_inner(
+    text: &mut String,
+    scope: Scope<'_>,
+    tabs: &str,
+    block: &[Statement],
+) -> Result<(), AllocError>
+    ensures { OnOk result
+        (string_bytes text.new ≡ string_bytes text.old
+        ++ block_text scope.entry.variables.now scope.entry.registers.now
         (tabs.now ++ codes "\t") (block_of block.now)) }
 {
-    append_line(text, tabs, head)?;
-    let mut inner = String::from_str(scope.alloc, tabs)?;
-    inner.push_str("\t")?;
-    append_block(text, scope, inner.as_str(), block)
+    let inner = deeper(scope.alloc, tabs)?;
+    let done = append_block(text, scope, inner.as_str(), block);
+    // By a call: where the end drops it, the proof follows the drop of all that is in it.
+    drop(inner);
+    done
 }
 
 /// Appends the lines of a block, behind a tab for each open block.
