@@ -1,32 +1,46 @@
 //! The printed form of a program.
 
-ghost use Rattle.std.specs.Prelude.{◌≡◌, ◌++◌, IfErr, IfOk, OnOk, map, slice_get};
+ghost use Rattle.std.specs.Prelude.{◌≡◌, ◌++◌, [], IfErr, IfOk, OnOk, codes, map, option_map, slice_get, unwrap_or};
+ghost use Rattle.std.specs.Fmt.{decimal, signed_decimal};
 ghost use Rattle.std.specs.Option.{option_copied};
 ghost use Rattle.std.specs.String.{string_bytes};
-ghost use Rattle.litmus_syntax.specs.PrintedForm.{condition_line, continued, declaration, declarations, initial_text, initialization_line, item_text};
+ghost use Rattle.litmus_syntax.specs.PrintedForm.{◌⧺◌, block_text, condition_line, continued, declaration, declarations, initial_text, initialization_line, item_text};
 ghost use Rattle.litmus_syntax.specs.PrintedForm.{items_text, listed, name_line, parameter_text, parameter_texts, printed, proposition_text, task_text};
 ghost use Rattle.litmus_syntax.specs.PrintedForm.{tasks_text};
 ghost use Rattle.litmus_syntax.specs.PrintedForm as spec;
-ghost use Rattle.litmus_syntax.specs.Views.{program_of, proposition_of, task_of};
+ghost use Rattle.litmus_syntax.specs.Views.{block_of, program_of, proposition_of, task_of};
 
-use crate::expression::{append, name_of, variable_of};
+use crate::expression::{append, append_between, name_of, variable_of};
 use crate::scope::Scope;
 use crate::statement::append_block;
-use litmus_syntax::{Contents, Name, ParseError, Program, Proposition, Task, Variable};
+use litmus_syntax::{Contents, Name, ParseError, Program, Proposition, Statement, Task, Variable};
 use std::alloc::{AllocError, Global};
 use std::fmt::Write;
 
-/// Appends the initial value of a variable; a lock has none.
-fn append_initial(text: &mut String, contents: Contents) -> Result<(), AllocError>
-    ensures { OnOk result (string_bytes text.new ≡ string_bytes text.old ++ initial_text contents) }
+/// The initial value of a variable; a lock has none.
+fn initial_of(contents: Contents) -> Option<i64>
+    ensures { initial_text contents
+        ≡ unwrap_or (option_map (λ initial. codes " = " ++ signed_decimal initial) result) [] }
 {
     match contents {
-        Contents::Char(initial) => write!(text, " = {initial}"),
-        Contents::Short(initial) => write!(text, " = {initial}"),
-        Contents::Int(initial) => write!(text, " = {initial}"),
-        Contents::Long(initial) => write!(text, " = {initial}"),
-        Contents::Atomic(initial) => write!(text, " = {initial}"),
-        Contents::Lock => Ok(()),
+        Contents::Char(initial) => Some(i64::from(initial)),
+        Contents::Short(initial) => Some(i64::from(initial)),
+        Contents::Int(initial) => Some(i64::from(initial)),
+        Contents::Long(initial) => Some(initial),
+        Contents::Atomic(initial) => Some(i64::from(initial)),
+        Contents::Lock => None,
+    }
+}
+
+/// Appends the initial value of a variable, and what ends the variable; a lock has none.
+fn append_initial(text: &mut String, contents: Contents) -> Result<(), AllocError>
+    ensures { OnOk result
+        (string_bytes text.new ≡ string_bytes text.old
+        ++ (initial_text contents ⧺ codes ";")) }
+{
+    match initial_of(contents) {
+        Some(initial) => write!(text, " = {initial};"),
+        None => append(text, ";"),
     }
 }
 
@@ -35,12 +49,9 @@ fn append_item(text: &mut String, variable: &Variable) -> Result<(), AllocError>
     ensures { OnOk result
         (string_bytes text.new ≡ string_bytes text.old ++ item_text variable.now) }
 {
-    append(text, " ")?;
-    append(text, variable.contents.type_name())?;
-    append(text, " ")?;
+    append_between(text, " ", variable.contents.type_name(), " ")?;
     append(text, variable.name.as_str())?;
-    append_initial(text, variable.contents)?;
-    append(text, ";")
+    append_initial(text, variable.contents)
 }
 
 /// Appends the variables of the initialization block.
@@ -72,9 +83,8 @@ fn append_parameter(
 {
     match variable_at(variables, number) {
         Some(variable) => {
-            append(text, variable.contents.type_name())?;
-            append(text, " *")?;
-            append(text, variable.name.as_str())
+            let name = variable.name.as_str();
+            append_between(text, variable.contents.type_name(), " *", name)
         }
         None => Ok(()),
     }
@@ -134,6 +144,36 @@ fn append_declaration(text: &mut String, name: &str) -> Result<(), AllocError>
     write!(text, "\tint {name};\n")
 }
 
+/// Appends the first lines of a task: its number and its parameters.
+fn append_head(
+    text: &mut String,
+    variables: &[Variable],
+    number: usize,
+    parameters: &[usize],
+) -> Result<(), AllocError>
+    ensures { OnOk result
+        (string_bytes text.new ≡ string_bytes text.old
+        ++ (codes "P" ⧺ decimal number
+        ⧺ codes "(" ⧺ listed (parameter_texts variables.now parameters.now) ⧺ codes ")\n{\n")) }
+{
+    write!(text, "P{number}(")?;
+    append_parameters(text, variables, parameters)?;
+    append(text, ")\n{\n")
+}
+
+/// Appends the lines of a task: its registers and its statements.
+fn append_lines(text: &mut String, scope: Scope<'_>, block: &[Statement]) -> Result<(), AllocError>
+    ensures { OnOk result
+        (string_bytes text.new ≡ string_bytes text.old
+        ++ (declarations scope.entry.registers.now
+        ⧺ block_text scope.entry.variables.now scope.entry.registers.now
+        (codes "\t") (block_of block.now) ⧺ codes "}\n")) }
+{
+    append_declarations(text, scope.registers)?;
+    append_block(text, scope, "\t", block)?;
+    append(text, "}\n")
+}
+
 /// Appends a task of a number.
 fn append_task(
     alloc: Global,
@@ -151,12 +191,8 @@ fn append_task(
         variables,
         registers: task.registers.as_slice(),
     };
-    write!(text, "P{number}(")?;
-    append_parameters(text, variables, task.parameters.as_slice())?;
-    append(text, ")\n{\n")?;
-    append_declarations(text, scope.registers)?;
-    append_block(text, scope, "\t", task.body.as_slice())?;
-    append(text, "}\n")
+    append_head(text, variables, number, task.parameters.as_slice())?;
+    append_lines(text, scope, task.body.as_slice())
 }
 
 /// Appends the tasks.
@@ -186,7 +222,26 @@ fn registers_of(tasks: &[Task], number: usize) -> &[Name]
     }
 }
 
+/// Appends that a register has a value.
+fn append_register(text: &mut String, task: usize, name: &str, value: u64) -> Result<(), AllocError>
+    ensures { OnOk result
+        (string_bytes text.new ≡ string_bytes text.old
+        ++ (decimal task ⧺ codes ":" ⧺ name.now ⧺ codes "=" ⧺ decimal value)) }
+{
+    write!(text, "{task}:{name}={value}")
+}
+
+/// Appends that a variable has a value.
+fn append_variable(text: &mut String, name: &str, value: u64) -> Result<(), AllocError>
+    ensures { OnOk result
+        (string_bytes text.new ≡ string_bytes text.old
+        ++ (name.now ⧺ codes "=" ⧺ decimal value)) }
+{
+    write!(text, "{name}={value}")
+}
+
 /// Appends a proposition.
+#[cycle(proposition)]
 fn append_proposition(
     text: &mut String,
     variables: &[Variable],
@@ -207,32 +262,61 @@ fn append_proposition(
             value,
         } => {
             let name = name_of(registers_of(tasks, *task), *register);
-            write!(text, "{task}:{name}={value}")
+            append_register(text, *task, name, *value)
         }
         Proposition::Variable { variable, value } => {
             let name = variable_of(variables, *variable);
-            write!(text, "{name}={value}")
+            append_variable(text, name, *value)
         }
         Proposition::Not(inner) => {
             append(text, "(~")?;
-            append_proposition(text, variables, tasks, inner)?;
-            append(text, ")")
+            append_closed(text, variables, tasks, inner)
         }
         Proposition::And(left, right) => {
-            append(text, "(")?;
-            append_proposition(text, variables, tasks, left)?;
-            append(text, " /\\ ")?;
-            append_proposition(text, variables, tasks, right)?;
-            append(text, ")")
+            append_opened(text, variables, tasks, left, " /\\ ")?;
+            append_closed(text, variables, tasks, right)
         }
         Proposition::Or(left, right) => {
-            append(text, "(")?;
-            append_proposition(text, variables, tasks, left)?;
-            append(text, " \\/ ")?;
-            append_proposition(text, variables, tasks, right)?;
-            append(text, ")")
+            append_opened(text, variables, tasks, left, " \\/ ")?;
+            append_closed(text, variables, tasks, right)
         }
     }
+}
+
+/// Appends the left part of a proposition, with what opens it and with a sign after it.
+#[cycle(proposition)]
+fn append_opened(
+    text: &mut String,
+    variables: &[Variable],
+    tasks: &[Task],
+    left: &Proposition,
+    sign: &str,
+) -> Result<(), AllocError>
+    ensures { OnOk result
+        (string_bytes text.new ≡ string_bytes text.old
+        ++ (codes "(" ⧺ proposition_text variables.now (map task_of tasks.now)
+        (proposition_of left.now) ⧺ sign.now)) }
+{
+    append(text, "(")?;
+    append_proposition(text, variables, tasks, left)?;
+    append(text, sign)
+}
+
+/// Appends the last part of a proposition, and what closes it.
+#[cycle(proposition)]
+fn append_closed(
+    text: &mut String,
+    variables: &[Variable],
+    tasks: &[Task],
+    last: &Proposition,
+) -> Result<(), AllocError>
+    ensures { OnOk result
+        (string_bytes text.new ≡ string_bytes text.old
+        ++ (proposition_text variables.now (map task_of tasks.now)
+        (proposition_of last.now) ⧺ codes ")")) }
+{
+    append_proposition(text, variables, tasks, last)?;
+    append(text, ")")
 }
 
 /// Appends the first line, with the test's name.
@@ -262,8 +346,7 @@ pub fn append_condition(text: &mut String, program: &Program) -> Result<(), Allo
 {
     let variables = program.variables.as_slice();
     let tasks = program.tasks.as_slice();
-    append(text, program.quantifier.text())?;
-    append(text, " ")?;
+    append_between(text, program.quantifier.text(), " ", "")?;
     append_proposition(text, variables, tasks, &program.condition)?;
     append(text, "\n")
 }
