@@ -24,10 +24,10 @@ use Rattle.report_text.specs.Line.{hit_word, kind_letters, letter_if, name, name
 use Rattle.trace_replay.specs.declared.trace_lines.fields.AccessLetters.{AccessLetters}
 use Rattle.trace_replay.specs.declared.trace_lines.fields.AccessName.{AccessName}
 use Rattle.trace_replay.specs.trace_lines.FieldReaders.{◌>>=◌, AreInLimits, behind_digits, decimal_at, digits_of, either, flag_at, flag_by, hit_at, is_number, kind_asserted, kind_at, kind_of, letters_at}
-use Rattle.trace_replay.specs.trace_lines.FieldReaders.{letters_marked, means, name_at, name_of, number_of, operation_at, outcome_at, past, repetition_at, repetition_by, result_at, small_value, ticket_at}
+use Rattle.trace_replay.specs.trace_lines.FieldReaders.{letters_marked, means, name_at, name_of, next, number_of, operation_at, outcome_at, past, repetition_at, repetition_by, result_at, small_value, ticket_at}
 use Rattle.trace_replay.specs.trace_lines.Reading.{FinderIsPlain, IsTicket}
 use Rattle.trace_replay.proofs.trace_lines.Digits.{digits_of_are, small_some}
-use Rattle.trace_replay.proofs.trace_lines.Words.{bind_is, bind_some, past_is, past_there, same_given}
+use Rattle.trace_replay.proofs.trace_lines.Words.{bind_is, bind_some, next_spelled, next_there, past_is, past_there, same_given}
 
 -- ---- decimal numbers
 
@@ -225,10 +225,11 @@ name_there task site rep rest t s r ended =
     let sites : site < 2 ^ 64 = omega arith in
     let e1 = decimal_there task (codes " " ++ (decimal site ++ (repetition rep ++ rest))) tasks refl in
     let e2 = past_there (codes " ") (decimal site ++ (repetition rep ++ rest)) in
-    let e3 = decimal_there site (repetition rep ++ rest) sites (repetition_ends rep rest ended) in
+    let e3 = next_there decimal_at _ _ (repetition rep ++ rest) site e2
+    (decimal_there site (repetition rep ++ rest) sites (repetition_ends rep rest ended)) in
     let e4 = repetition_there rep rest r ended in
     let e5 = name_made task site rep t s r in
-    rw (shape, e1, e2, e3, e4, e5)
+    rw (shape, e1, e3, e4, e5)
 
 repetition_spelled : (bytes : List ℕ) (found : ℕ × List ℕ) → repetition_at bytes ≡ Some found → bytes ≡ repetition found.0 ++ found.1
 unfolding repetition_at
@@ -272,18 +273,19 @@ pub name_spelled : (bytes : List ℕ) (found : AccessName × List ℕ) → name_
 unfolding name_at
 name_spelled bytes found e =
     let b1 = bind_some (decimal_at bytes) _ found e in
-    let b2 = bind_some (past (codes " ") b1.0.1) _ found b1.2 in
-    let b3 = bind_some (decimal_at b2.0) _ found b2.2 in
-    let b4 = bind_some (repetition_at b3.0.1) _ found b3.2 in
-    let b5 = bind_some (name_of b1.0.0 b3.0.0 b4.0.0) (λ n. Some (n, b4.0.1)) found b4.2 in
+    let site = next decimal_at (Some b1.0.1) in
+    let b2 = bind_some site.1 _ found b1.2 in
+    let b3 = next_spelled decimal_at (Some b1.0.1) b2.0 b2.1 in
+    let b4 = bind_some (repetition_at b2.0) _ found b2.2 in
+    let b5 = bind_some (name_of b1.0.0 site.0 b4.0.0) (λ n. Some (n, b4.0.1)) found b4.2 in
     let d1 = decimal_spelled bytes b1.0 b1.1 in
-    let d2 = past_is (codes " ") b1.0.1 b2.0 b2.1 in
-    let d3 = decimal_spelled b2.0 b3.0 b3.1 in
-    let d4 = repetition_spelled b3.0.1 b4.0 b4.1 in
-    let m = made_is b1.0.0 b3.0.0 b4.0.0 b5.0 b5.1 in
+    let d2 = same_given b1.0.1 b3.before b3.were ∙ b3.spelled in
+    let d3 = decimal_spelled b3.behind (site.0, b2.0) b3.read in
+    let d4 = repetition_spelled b2.0 b4.0 b4.1 in
+    let m = made_is b1.0.0 site.0 b4.0.0 b5.0 b5.1 in
     let same : (b5.0, b4.0.1) ≡ found = same_given (b5.0, b4.0.1) found b5.2 in
-    let chain : bytes ≡ decimal b1.0.0 ++ (codes " " ++ (decimal b3.0.0 ++ (repetition b4.0.0 ++ b4.0.1))) =
-    d1.0 ∙ ap (λ xs. decimal b1.0.0 ++ xs) (d2 ∙ ap (λ xs. codes " " ++ xs) (d3.0 ∙ ap (λ xs. decimal b3.0.0 ++ xs) d4)) in
+    let chain : bytes ≡ decimal b1.0.0 ++ (codes " " ++ (decimal site.0 ++ (repetition b4.0.0 ++ b4.0.1))) =
+    d1.0 ∙ ap (λ xs. decimal b1.0.0 ++ xs) (d2 ∙ ap (λ xs. codes " " ++ xs) (d3.0 ∙ ap (λ xs. decimal site.0 ++ xs) d4)) in
     let spelled : bytes ≡ name b5.0.task b5.0.site b5.0.rep ++ b4.0.1 = chain ∙ rw (m.0, m.1, m.2) (simp append_assoc) in
     subst (λ (f : AccessName × List ℕ). (bytes ≡ name f.0.task f.0.site f.0.rep ++ f.1) × AreInLimits f.0) same (spelled, m.3)
 

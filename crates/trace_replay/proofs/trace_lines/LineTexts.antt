@@ -16,12 +16,12 @@ use Rattle.report_text.specs.declared.line.Line.{Line}
 use Rattle.report_text.specs.declared.line.Line.TheVariants as lines
 use Rattle.trace_replay.specs.declared.trace_lines.fields.AccessLetters.{AccessLetters}
 use Rattle.trace_replay.specs.declared.trace_lines.fields.AccessName.{AccessName}
-use Rattle.trace_replay.specs.trace_lines.FieldReaders.{◌>>=◌, AreInLimits, behind, decimal_at, hex_at, letters_at, name_at, outcome_at, past, ticket_at}
+use Rattle.trace_replay.specs.trace_lines.FieldReaders.{◌>>=◌, AreInLimits, behind, decimal_at, hex_at, letters_at, name_at, next, outcome_at, past, ticket_at}
 use Rattle.trace_replay.specs.trace_lines.LineReaders.{access_at, access_of, arm_at, line_at, origin_at, race_at, take_at}
 use Rattle.trace_replay.specs.trace_lines.Reading.{AccessIsPlain, ArmIsPlain, FinderIsPlain, IsLineAt, IsPlain, IsTicket, Read, TakeIsPlain}
 use Rattle.trace_replay.proofs.trace_lines.FieldTexts.{decimal_spelled, decimal_there, letters_spelled, letters_there, name_spelled, name_there, outcome_spelled, outcome_there, ticket_spelled, ticket_there}
 use Rattle.trace_replay.proofs.trace_lines.Hex.{hex_spelled, hex_there}
-use Rattle.trace_replay.proofs.trace_lines.Words.{bind_some, bind_then, past_is, past_there, same_given}
+use Rattle.trace_replay.proofs.trace_lines.Words.{bind_some, bind_then, next_spelled, next_there, past_is, past_there, same_given}
 
 -- ---- what is spelled is read
 
@@ -35,7 +35,18 @@ module _ (bytes t1 t2 t3 t4 t5 t6 t7 t8 t9 t10 t11 t12 t13 rest : List ℕ) wher
       → access_of n l addr size mask begin end ≡ Some line → access_at bytes ≡ Some (line, rest)
   unfolding access_at
   access_steps n l addr size mask begin end line e1 e2 e3 e4 e5 e6 e7 e8 e9 e10 e11 e12 e13 e14 e15 =
-      rw (e1, e2, e3, e4, e5, e6, e7, e8, e9, e10, e11, e12, e13, e14, e15)
+      rw (
+        e1,
+        e2,
+        e3,
+        next_there hex_at t3 t4 t5 addr e4 e5,
+        next_there decimal_at t5 t6 t7 size e6 e7,
+        next_there hex_at t7 t8 t9 mask e8 e9,
+        next_there decimal_at t9 t10 t11 begin e10 e11,
+        next_there decimal_at t11 t12 t13 end e12 e13,
+        e14,
+        e15,
+      )
 
   arm_steps : (setter number index word : ℕ) (outcome : ArmOutcome)
       → ticket_at bytes ≡ Some (setter, t1) → past (codes " ") t1 ≡ Some t2 → decimal_at t2 ≡ Some (number, t3)
@@ -44,27 +55,38 @@ module _ (bytes t1 t2 t3 t4 t5 t6 t7 t8 t9 t10 t11 t12 t13 rest : List ℕ) wher
       → past (codes "\n") t9 ≡ Some rest
       → arm_at bytes ≡ Some (lines.Arm (record { setter = setter; number = number; index = index; watch_word = word; outcome = outcome }), rest)
   unfolding arm_at
-  arm_steps setter number index word outcome e1 e2 e3 e4 e5 e6 e7 e8 e9 e10 = rw (e1, e2, e3, e4, e5, e6, e7, e8, e9, e10)
+  arm_steps setter number index word outcome e1 e2 e3 e4 e5 e6 e7 e8 e9 e10 =
+      rw (
+        e1,
+        next_there decimal_at t1 t2 t3 number e2 e3,
+        next_there decimal_at t3 t4 t5 index e4 e5,
+        next_there hex_at t5 t6 t7 word e6 e7,
+        e8,
+        e9,
+        e10,
+      )
 
   take_steps : (finder index setter : ℕ)
       → ticket_at bytes ≡ Some (finder, t1) → past (codes " ") t1 ≡ Some t2 → decimal_at t2 ≡ Some (index, t3)
       → past (codes " ") t3 ≡ Some t4 → ticket_at t4 ≡ Some (setter, t5) → past (codes "\n") t5 ≡ Some rest
       → take_at bytes ≡ Some (lines.Take (record { finder = finder; index = index; setter = setter }), rest)
   unfolding take_at
-  take_steps finder index setter e1 e2 e3 e4 e5 e6 = rw (e1, e2, e3, e4, e5, e6)
+  take_steps finder index setter e1 e2 e3 e4 e5 e6 =
+      rw (e1, next_there decimal_at t1 t2 t3 index e2 e3, next_there ticket_at t3 t4 t5 setter e4 e5, e6)
 
   race_steps : (setter finder : ℕ)
       → ticket_at bytes ≡ Some (setter, t1) → past (codes " ") t1 ≡ Some t2 → ticket_at t2 ≡ Some (finder, t3)
       → past (codes "\n") t3 ≡ Some rest → race_at bytes ≡ Some (lines.Report (Two setter finder None), rest)
   unfolding race_at
-  race_steps setter finder e1 e2 e3 e4 = rw (e1, e2, e3, e4)
+  race_steps setter finder e1 e2 e3 e4 = rw (e1, next_there ticket_at t1 t2 t3 finder e2 e3, e4)
 
   origin_steps : (setter old new : ℕ)
       → ticket_at bytes ≡ Some (setter, t1) → past (codes " ") t1 ≡ Some t2 → hex_at t2 ≡ Some (old, t3)
       → past (codes " ") t3 ≡ Some t4 → hex_at t4 ≡ Some (new, t5) → past (codes "\n") t5 ≡ Some rest
       → origin_at bytes ≡ Some (lines.Report (Unknown setter old new), rest)
   unfolding origin_at
-  origin_steps setter old new e1 e2 e3 e4 e5 e6 = rw (e1, e2, e3, e4, e5, e6)
+  origin_steps setter old new e1 e2 e3 e4 e5 e6 =
+      rw (e1, next_there hex_at t1 t2 t3 old e2 e3, next_there hex_at t3 t4 t5 new e4 e5, e6)
 
 mask_back : (mask : Option ℕ) → proper_mask mask ≡ mask → proper_mask (Some (unwrap_or mask 0)) ≡ mask
 mask_back None is = refl
@@ -330,26 +352,27 @@ access_spelled bytes found e =
     bind_then (name_at bytes) _ found e (λ x1 p1 e.
     bind_then (past (codes " ") x1.1) _ found e (λ x2 p2 e.
     bind_then (letters_at x2) _ found e (λ x3 p3 e.
-    bind_then (past (codes " ") x3.1) _ found e (λ x4 p4 e.
-    bind_then (hex_at x4) _ found e (λ x5 p5 e.
-    bind_then (past (codes " ") x5.1) _ found e (λ x6 p6 e.
-    bind_then (decimal_at x6) _ found e (λ x7 p7 e.
-    bind_then (past (codes " ") x7.1) _ found e (λ x8 p8 e.
-    bind_then (hex_at x8) _ found e (λ x9 p9 e.
-    bind_then (past (codes " ") x9.1) _ found e (λ x10 p10 e.
-    bind_then (decimal_at x10) _ found e (λ x11 p11 e.
-    bind_then (past (codes " ") x11.1) _ found e (λ x12 p12 e.
-    bind_then (decimal_at x12) _ found e (λ x13 p13 e.
-    bind_then (past (codes "\n") x13.1) _ found e (λ x14 p14 e.
-    bind_then (access_of x1.0 x3.0 x5.0 x7.0 x9.0 x11.0 x13.0) _ found e (λ x15 p15 e.
-    access_ends bytes x1.1 x2 x3.1 x4 x5.1 x6 x7.1 x8 x9.1 x10 x11.1 x12 x13.1 x14
-    x1.0 x3.0 x5.0 x7.0 x9.0 x11.0 x13.0 x15 found
+    let addr = next hex_at (Some x3.1) in
+    let size = next decimal_at addr.1 in
+    let mask = next hex_at size.1 in
+    let begin = next decimal_at mask.1 in
+    let end = next decimal_at begin.1 in
+    bind_then (end.1 >>= past (codes "\n")) _ found e (λ x14 p14 e.
+    bind_then (access_of x1.0 x3.0 addr.0 size.0 mask.0 begin.0 end.0) _ found e (λ x15 p15 e.
+    let b = bind_some end.1 (past (codes "\n")) x14 p14 in
+    let s13 = next_spelled decimal_at begin.1 b.0 b.1 in
+    let s11 = next_spelled decimal_at mask.1 s13.before s13.were in
+    let s9 = next_spelled hex_at size.1 s11.before s11.were in
+    let s7 = next_spelled decimal_at addr.1 s9.before s9.were in
+    let s5 = next_spelled hex_at (Some x3.1) s7.before s7.were in
+    access_ends bytes x1.1 x2 x3.1 s5.behind s7.before s7.behind s9.before s9.behind s11.before s11.behind s13.before s13.behind b.0 x14
+    x1.0 x3.0 addr.0 size.0 mask.0 begin.0 end.0 x15 found
     (name_spelled bytes x1 p1) (past_is (codes " ") x1.1 x2 p2) (letters_spelled x2 x3 p3)
-    (past_is (codes " ") x3.1 x4 p4) (hex_spelled x4 x5 p5) (past_is (codes " ") x5.1 x6 p6)
-    (decimal_spelled x6 x7 p7) (past_is (codes " ") x7.1 x8 p8) (hex_spelled x8 x9 p9)
-    (past_is (codes " ") x9.1 x10 p10) (decimal_spelled x10 x11 p11) (past_is (codes " ") x11.1 x12 p12)
-    (decimal_spelled x12 x13 p13) (past_is (codes "\n") x13.1 x14 p14)
-    (access_made x1.0 x3.0 x5.0 x7.0 x9.0 x11.0 x13.0 x15 p15) (same_given (x15, x14) found e))))))))))))))))
+    (same_given x3.1 s5.before s5.were ∙ s5.spelled) (hex_spelled s5.behind (addr.0, s7.before) s5.read) s7.spelled
+    (decimal_spelled s7.behind (size.0, s9.before) s7.read) s9.spelled (hex_spelled s9.behind (mask.0, s11.before) s9.read)
+    s11.spelled (decimal_spelled s11.behind (begin.0, s13.before) s11.read) s13.spelled
+    (decimal_spelled s13.behind (end.0, b.0) s13.read) (past_is (codes "\n") b.0 x14 b.2)
+    (access_made x1.0 x3.0 addr.0 size.0 mask.0 begin.0 end.0 x15 p15) (same_given (x15, x14) found e))))))
 
 arm_ends : (bytes t1 t2 t3 t4 t5 t6 t7 t8 t9 rest : List ℕ) (setter number index word : ℕ) (outcome : ArmOutcome) (found : Line × List ℕ)
     → (bytes ≡ name_in setter ++ t1) × IsTicket setter → t1 ≡ codes " " ++ t2
@@ -371,19 +394,22 @@ arm_spelled : (bytes : List ℕ) (found : Line × List ℕ) → arm_at bytes ≡
 unfolding arm_at
 arm_spelled bytes found e =
     bind_then (ticket_at bytes) _ found e (λ x1 p1 e.
-    bind_then (past (codes " ") x1.1) _ found e (λ x2 p2 e.
-    bind_then (decimal_at x2) _ found e (λ x3 p3 e.
-    bind_then (past (codes " ") x3.1) _ found e (λ x4 p4 e.
-    bind_then (decimal_at x4) _ found e (λ x5 p5 e.
-    bind_then (past (codes " ") x5.1) _ found e (λ x6 p6 e.
-    bind_then (hex_at x6) _ found e (λ x7 p7 e.
-    bind_then (past (codes " ") x7.1) _ found e (λ x8 p8 e.
+    let number = next decimal_at (Some x1.1) in
+    let index = next decimal_at number.1 in
+    let word = next hex_at index.1 in
+    bind_then (word.1 >>= past (codes " ")) _ found e (λ x8 p8 e.
     bind_then (outcome_at x8) _ found e (λ x9 p9 e.
     bind_then (past (codes "\n") x9.1) _ found e (λ x10 p10 e.
-    arm_ends bytes x1.1 x2 x3.1 x4 x5.1 x6 x7.1 x8 x9.1 x10 x1.0 x3.0 x5.0 x7.0 x9.0 found
-    (ticket_spelled bytes x1 p1) (past_is (codes " ") x1.1 x2 p2) (decimal_spelled x2 x3 p3) (past_is (codes " ") x3.1 x4 p4) (decimal_spelled x4 x5 p5) (past_is (codes " ") x5.1 x6 p6)
-    (hex_spelled x6 x7 p7) (past_is (codes " ") x7.1 x8 p8) (outcome_spelled x8 x9 p9) (past_is (codes "\n") x9.1 x10 p10)
-    (same_given (lines.Arm (record { setter = x1.0; number = x3.0; index = x5.0; watch_word = x7.0; outcome = x9.0 }), x10) found e)))))))))))
+    let b = bind_some word.1 (past (codes " ")) x8 p8 in
+    let s7 = next_spelled hex_at index.1 b.0 b.1 in
+    let s5 = next_spelled decimal_at number.1 s7.before s7.were in
+    let s3 = next_spelled decimal_at (Some x1.1) s5.before s5.were in
+    arm_ends bytes x1.1 s3.behind s5.before s5.behind s7.before s7.behind b.0 x8 x9.1 x10 x1.0 number.0 index.0 word.0 x9.0 found
+    (ticket_spelled bytes x1 p1) (same_given x1.1 s3.before s3.were ∙ s3.spelled)
+    (decimal_spelled s3.behind (number.0, s5.before) s3.read) s5.spelled (decimal_spelled s5.behind (index.0, s7.before) s5.read)
+    s7.spelled (hex_spelled s7.behind (word.0, b.0) s7.read) (past_is (codes " ") b.0 x8 b.2) (outcome_spelled x8 x9 p9)
+    (past_is (codes "\n") x9.1 x10 p10)
+    (same_given (lines.Arm (record { setter = x1.0; number = number.0; index = index.0; watch_word = word.0; outcome = x9.0 }), x10) found e)))))
 
 take_ends : (bytes t1 t2 t3 t4 t5 rest : List ℕ) (finder index setter : ℕ) (found : Line × List ℕ)
     → (bytes ≡ name_in finder ++ t1) × IsTicket finder → t1 ≡ codes " " ++ t2
@@ -401,14 +427,16 @@ take_spelled : (bytes : List ℕ) (found : Line × List ℕ) → take_at bytes �
 unfolding take_at
 take_spelled bytes found e =
     bind_then (ticket_at bytes) _ found e (λ x1 p1 e.
-    bind_then (past (codes " ") x1.1) _ found e (λ x2 p2 e.
-    bind_then (decimal_at x2) _ found e (λ x3 p3 e.
-    bind_then (past (codes " ") x3.1) _ found e (λ x4 p4 e.
-    bind_then (ticket_at x4) _ found e (λ x5 p5 e.
-    bind_then (past (codes "\n") x5.1) _ found e (λ x6 p6 e.
-    take_ends bytes x1.1 x2 x3.1 x4 x5.1 x6 x1.0 x3.0 x5.0 found
-    (ticket_spelled bytes x1 p1) (past_is (codes " ") x1.1 x2 p2) (decimal_spelled x2 x3 p3) (past_is (codes " ") x3.1 x4 p4) (ticket_spelled x4 x5 p5) (past_is (codes "\n") x5.1 x6 p6)
-    (same_given (lines.Take (record { finder = x1.0; index = x3.0; setter = x5.0 }), x6) found e)))))))
+    let index = next decimal_at (Some x1.1) in
+    let setter = next ticket_at index.1 in
+    bind_then (setter.1 >>= past (codes "\n")) _ found e (λ x6 p6 e.
+    let b = bind_some setter.1 (past (codes "\n")) x6 p6 in
+    let s5 = next_spelled ticket_at index.1 b.0 b.1 in
+    let s3 = next_spelled decimal_at (Some x1.1) s5.before s5.were in
+    take_ends bytes x1.1 s3.behind s5.before s5.behind b.0 x6 x1.0 index.0 setter.0 found
+    (ticket_spelled bytes x1 p1) (same_given x1.1 s3.before s3.were ∙ s3.spelled) (decimal_spelled s3.behind (index.0, s5.before) s3.read)
+    s5.spelled (ticket_spelled s5.behind (setter.0, b.0) s5.read) (past_is (codes "\n") b.0 x6 b.2)
+    (same_given (lines.Take (record { finder = x1.0; index = index.0; setter = setter.0 }), x6) found e)))
 
 race_ends : (bytes t1 t2 t3 rest : List ℕ) (setter finder : ℕ) (found : Line × List ℕ)
     → (bytes ≡ name_in setter ++ t1) × IsTicket setter → t1 ≡ codes " " ++ t2
@@ -425,12 +453,13 @@ race_spelled : (bytes : List ℕ) (found : Line × List ℕ) → race_at bytes �
 unfolding race_at
 race_spelled bytes found e =
     bind_then (ticket_at bytes) _ found e (λ x1 p1 e.
-    bind_then (past (codes " ") x1.1) _ found e (λ x2 p2 e.
-    bind_then (ticket_at x2) _ found e (λ x3 p3 e.
-    bind_then (past (codes "\n") x3.1) _ found e (λ x4 p4 e.
-    race_ends bytes x1.1 x2 x3.1 x4 x1.0 x3.0 found
-    (ticket_spelled bytes x1 p1) (past_is (codes " ") x1.1 x2 p2) (ticket_spelled x2 x3 p3) (past_is (codes "\n") x3.1 x4 p4)
-    (same_given (lines.Report (Two x1.0 x3.0 None), x4) found e)))))
+    let finder = next ticket_at (Some x1.1) in
+    bind_then (finder.1 >>= past (codes "\n")) _ found e (λ x4 p4 e.
+    let b = bind_some finder.1 (past (codes "\n")) x4 p4 in
+    let s3 = next_spelled ticket_at (Some x1.1) b.0 b.1 in
+    race_ends bytes x1.1 s3.behind b.0 x4 x1.0 finder.0 found
+    (ticket_spelled bytes x1 p1) (same_given x1.1 s3.before s3.were ∙ s3.spelled) (ticket_spelled s3.behind (finder.0, b.0) s3.read)
+    (past_is (codes "\n") b.0 x4 b.2) (same_given (lines.Report (Two x1.0 finder.0 None), x4) found e)))
 
 origin_ends : (bytes t1 t2 t3 t4 t5 rest : List ℕ) (setter old new : ℕ) (found : Line × List ℕ)
     → (bytes ≡ name_in setter ++ t1) × IsTicket setter → t1 ≡ codes " " ++ t2
@@ -448,14 +477,16 @@ origin_spelled : (bytes : List ℕ) (found : Line × List ℕ) → origin_at byt
 unfolding origin_at
 origin_spelled bytes found e =
     bind_then (ticket_at bytes) _ found e (λ x1 p1 e.
-    bind_then (past (codes " ") x1.1) _ found e (λ x2 p2 e.
-    bind_then (hex_at x2) _ found e (λ x3 p3 e.
-    bind_then (past (codes " ") x3.1) _ found e (λ x4 p4 e.
-    bind_then (hex_at x4) _ found e (λ x5 p5 e.
-    bind_then (past (codes "\n") x5.1) _ found e (λ x6 p6 e.
-    origin_ends bytes x1.1 x2 x3.1 x4 x5.1 x6 x1.0 x3.0 x5.0 found
-    (ticket_spelled bytes x1 p1) (past_is (codes " ") x1.1 x2 p2) (hex_spelled x2 x3 p3) (past_is (codes " ") x3.1 x4 p4) (hex_spelled x4 x5 p5) (past_is (codes "\n") x5.1 x6 p6)
-    (same_given (lines.Report (Unknown x1.0 x3.0 x5.0), x6) found e)))))))
+    let old = next hex_at (Some x1.1) in
+    let new = next hex_at old.1 in
+    bind_then (new.1 >>= past (codes "\n")) _ found e (λ x6 p6 e.
+    let b = bind_some new.1 (past (codes "\n")) x6 p6 in
+    let s5 = next_spelled hex_at old.1 b.0 b.1 in
+    let s3 = next_spelled hex_at (Some x1.1) s5.before s5.were in
+    origin_ends bytes x1.1 s3.behind s5.before s5.behind b.0 x6 x1.0 old.0 new.0 found
+    (ticket_spelled bytes x1 p1) (same_given x1.1 s3.before s3.were ∙ s3.spelled) (hex_spelled s3.behind (old.0, s5.before) s3.read)
+    s5.spelled (hex_spelled s5.behind (new.0, b.0) s5.read) (past_is (codes "\n") b.0 x6 b.2)
+    (same_given (lines.Report (Unknown x1.0 old.0 new.0), x6) found e)))
 
 behind_spelled : (text bytes : List ℕ) (reader : List ℕ → Read Line) (other : Read Line) (found : Line × List ℕ)
     → behind (past text bytes) reader other ≡ Some found

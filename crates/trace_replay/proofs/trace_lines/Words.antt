@@ -3,7 +3,9 @@ use Rattle.std.proofs.Common.{◌≡◌, ◌≢◌, ◌∙◌, ◌+◌, ◌<◌,
 use Rattle.std.proofs.Common.{false, cond, Option, Some, None, refl, add-one, ap, arith, drop, drop-cons, eq-eqb, get_or, length, ◌==◌}
 use Rattle.std.proofs.lemmas.Bool.{eqb-true, ne_eqb}
 use Rattle.std.proofs.lemmas.List.{drop_all}
-use Rattle.trace_replay.specs.trace_lines.FieldReaders.{◌>>=◌, past}
+use Rattle.std.specs.Prelude.{codes}
+use Rattle.trace_replay.specs.trace_lines.FieldReaders.{◌>>=◌, next, parted, past}
+use Rattle.trace_replay.specs.trace_lines.Reading.{Read}
 
 pub past_there : (text rest : List ℕ) → past text (text ++ rest) ≡ Some rest
 unfolding past
@@ -85,3 +87,34 @@ given x = Some x
 
 pub same_given : {A : Type 0} (x y : A) → given x ≡ given y → x ≡ y
 same_given x y e = cc
+
+-- ---- a number behind a blank
+
+module _ (reader : List ℕ → Read ℕ) where
+  pub next_there : (t u v : List ℕ) (number : ℕ) → past (codes " ") t ≡ Some u → reader u ≡ Some (number, v)
+      → next reader (Some t) ≡ (number, Some v)
+  unfolding next
+  next_there t u v number e f = rw (e, f)
+
+  -- what was read where bytes are behind the number
+  pub record Stood (bytes : Option (List ℕ)) (rest : List ℕ) : Type 0 where
+    pub before : List ℕ
+    pub behind : List ℕ
+    pub were : bytes ≡ Some before
+    pub spelled : before ≡ codes " " ++ behind
+    pub read : reader behind ≡ Some ((next reader bytes).0, rest)
+
+  pub next_spelled : (bytes : Option (List ℕ)) (rest : List ℕ) → (next reader bytes).1 ≡ Some rest → Stood bytes rest
+  unfolding next
+  next_spelled None rest e = absurd cc
+  next_spelled (Some t) rest e = by (past (codes " ") t) refl e
+    where
+      read_on : (u : List ℕ) (found : Read ℕ) → past (codes " ") t ≡ Some u → reader u ≡ found → (parted found).1 ≡ Some rest
+          → Stood (Some t) rest
+      read_on u None p q e = absurd cc
+      read_on u (Some x) p q e = let same : x ≡ ((next reader (Some t)).0, rest) = rw (p, q) (ap (λ r. (x.0, r)) (same_given x.1 rest e)) in
+          record { before = t; behind = u; were = refl; spelled = past_is (codes " ") t u p; read = q ∙ ap (λ y. Some y) same }
+
+      by : (o : Option (List ℕ)) → past (codes " ") t ≡ o → (parted (o >>= reader)).1 ≡ Some rest → Stood (Some t) rest
+      by None p e = absurd cc
+      by (Some u) p e = read_on u (reader u) p refl e

@@ -32,6 +32,10 @@ past [] bytes = Some bytes
 past (c ∷ text) [] = None
 past (c ∷ text) (b ∷ bytes) = if c == b then past text bytes else None
 
+-- the same, where there are bytes
+abbrev pub past_in : List ℕ → Option (List ℕ) → Option (List ℕ)
+past_in text bytes = bytes >>= past text
+
 -- one reader behind a text, and another where the text isn't there
 abbrev pub behind : {V : Type 0} → Option (List ℕ) → (List ℕ → reading.Read V) → reading.Read V → reading.Read V
 behind None reader other = other
@@ -92,6 +96,15 @@ hex_behind rest = if nat_lt (length rest) 16 then None
 unfoldable pub hex_at : List ℕ → reading.Read ℕ
 hex_at bytes = past (codes "0x") bytes >>= hex_behind
 
+-- a number and what is behind it, where it was there
+abbrev pub parted : reading.Read ℕ → ℕ × Option (List ℕ)
+parted None = (0, None)
+parted (Some found) = (found.0, Some found.1)
+
+-- the number behind a blank, where all before it was there
+unfoldable pub next : (List ℕ → reading.Read ℕ) → Option (List ℕ) → ℕ × Option (List ℕ)
+next reader bytes = parted (bytes >>= past (codes " ") >>= reader)
+
 -- a repetition above 0 behind a dot, or 0
 abbrev pub repetition_by : Option (List ℕ) → List ℕ → reading.Read ℕ
 repetition_by None bytes = Some (0, bytes)
@@ -113,8 +126,9 @@ name_of task site rep =
 -- a task, a site and a repetition
 unfoldable pub name_at : List ℕ → reading.Read AccessName
 name_at bytes =
-    decimal_at bytes >>= λ task. past (codes " ") task.1 >>= λ behind. decimal_at behind >>= λ site.
-    repetition_at site.1 >>= λ rep. name_of task.0 site.0 rep.0 >>= λ name. Some (name, rep.1)
+    decimal_at bytes >>= λ task.
+    let site = next decimal_at (Some task.1) in
+    site.1 >>= λ behind. repetition_at behind >>= λ rep. name_of task.0 site.0 rep.0 >>= λ name. Some (name, rep.1)
 
 -- a name, as a ticket
 unfoldable pub ticket_at : List ℕ → reading.Read ℕ

@@ -6,7 +6,7 @@ use Rattle.report_text.specs.declared.line.Line.{Line}
 use Rattle.report_text.specs.declared.line.Line.TheVariants as lines
 use Rattle.trace_replay.specs.declared.trace_lines.fields.AccessLetters.{AccessLetters}
 use Rattle.trace_replay.specs.declared.trace_lines.fields.AccessName.{AccessName}
-use Rattle.trace_replay.specs.trace_lines.FieldReaders.{◌>>=◌, behind, past, decimal_at, hex_at, letters_at, name_at, outcome_at, ticket_at}
+use Rattle.trace_replay.specs.trace_lines.FieldReaders.{◌>>=◌, behind, past, decimal_at, hex_at, letters_at, name_at, next, outcome_at, ticket_at}
 use Rattle.trace_replay.specs.trace_lines.Reading.{Read}
 
 -- the access of these fields, where there is one
@@ -32,16 +32,21 @@ access_of name letters addr size mask begin end =
 -- the rest of the line of an access
 unfoldable pub access_at : List ℕ → Read Line
 access_at bytes = name_at bytes >>= λ name. past (codes " ") name.1 >>= λ b1. letters_at b1 >>= λ letters.
-    past (codes " ") letters.1 >>= λ b2. hex_at b2 >>= λ addr. past (codes " ") addr.1 >>= λ b3. decimal_at b3 >>= λ size.
-    past (codes " ") size.1 >>= λ b4. hex_at b4 >>= λ mask. past (codes " ") mask.1 >>= λ b5. decimal_at b5 >>= λ begin.
-    past (codes " ") begin.1 >>= λ b6. decimal_at b6 >>= λ end. past (codes "\n") end.1 >>= λ rest.
+    let addr = next hex_at (Some letters.1) in
+    let size = next decimal_at addr.1 in
+    let mask = next hex_at size.1 in
+    let begin = next decimal_at mask.1 in
+    let end = next decimal_at begin.1 in
+    end.1 >>= past (codes "\n") >>= λ rest.
     access_of name.0 letters.0 addr.0 size.0 mask.0 begin.0 end.0 >>= λ line. Some (line, rest)
 
 -- the rest of the line of an arming
 unfoldable pub arm_at : List ℕ → Read Line
-arm_at bytes = ticket_at bytes >>= λ setter. past (codes " ") setter.1 >>= λ b1. decimal_at b1 >>= λ number.
-    past (codes " ") number.1 >>= λ b2. decimal_at b2 >>= λ index. past (codes " ") index.1 >>= λ b3. hex_at b3 >>= λ word.
-    past (codes " ") word.1 >>= λ b4. outcome_at b4 >>= λ outcome. past (codes "\n") outcome.1 >>= λ rest.
+arm_at bytes = ticket_at bytes >>= λ setter.
+    let number = next decimal_at (Some setter.1) in
+    let index = next decimal_at number.1 in
+    let word = next hex_at index.1 in
+    word.1 >>= past (codes " ") >>= λ b4. outcome_at b4 >>= λ outcome. past (codes "\n") outcome.1 >>= λ rest.
     Some (
       lines.Arm (record {
         setter = setter.0;
@@ -55,19 +60,24 @@ arm_at bytes = ticket_at bytes >>= λ setter. past (codes " ") setter.1 >>= λ b
 
 -- the rest of the line of a taking
 unfoldable pub take_at : List ℕ → Read Line
-take_at bytes = ticket_at bytes >>= λ finder. past (codes " ") finder.1 >>= λ b1. decimal_at b1 >>= λ index.
-    past (codes " ") index.1 >>= λ b2. ticket_at b2 >>= λ setter. past (codes "\n") setter.1 >>= λ rest.
+take_at bytes = ticket_at bytes >>= λ finder.
+    let index = next decimal_at (Some finder.1) in
+    let setter = next ticket_at index.1 in
+    setter.1 >>= past (codes "\n") >>= λ rest.
     Some (lines.Take (record { finder = finder.0; index = index.0; setter = setter.0 }), rest)
 
 -- the rest of the line of a race
 unfoldable pub race_at : List ℕ → Read Line
-race_at bytes = ticket_at bytes >>= λ setter. past (codes " ") setter.1 >>= λ b1. ticket_at b1 >>= λ finder.
-    past (codes "\n") finder.1 >>= λ rest. Some (lines.Report (Two setter.0 finder.0 None), rest)
+race_at bytes = ticket_at bytes >>= λ setter.
+    let finder = next ticket_at (Some setter.1) in
+    finder.1 >>= past (codes "\n") >>= λ rest. Some (lines.Report (Two setter.0 finder.0 None), rest)
 
 -- the rest of the line of a change of unknown origin
 unfoldable pub origin_at : List ℕ → Read Line
-origin_at bytes = ticket_at bytes >>= λ setter. past (codes " ") setter.1 >>= λ b1. hex_at b1 >>= λ old.
-    past (codes " ") old.1 >>= λ b2. hex_at b2 >>= λ new. past (codes "\n") new.1 >>= λ rest.
+origin_at bytes = ticket_at bytes >>= λ setter.
+    let old = next hex_at (Some setter.1) in
+    let new = next hex_at old.1 in
+    new.1 >>= past (codes "\n") >>= λ rest.
     Some (lines.Report (Unknown setter.0 old.0 new.0), rest)
 
 -- a line

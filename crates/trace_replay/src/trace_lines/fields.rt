@@ -3,7 +3,7 @@
 
 ghost use Rattle.std.specs.Prelude.{◌≡◌, ◌+◌, ◌*◌, ◌^◌, ◌<◌, ◌≤◌, codes, drop, length, take, IfNone, IfSome};
 ghost use Rattle.trace_replay.specs.trace_lines.FieldReaders.{AreDigits, AreInLimits, behind_digits, decimal_at, digits_of, flag_at, hex_all, hex_at, hex_value, hit_at, is_number, kind_at, kind_of, letters_at};
-ghost use Rattle.trace_replay.specs.trace_lines.FieldReaders.{name_at, name_of, operation_at, outcome_at, past, repetition_at, result_at, small_value, ticket_at};
+ghost use Rattle.trace_replay.specs.trace_lines.FieldReaders.{name_at, name_of, next, operation_at, outcome_at, parted, past, past_in, repetition_at, result_at, small_value, ticket_at};
 ghost use Rattle.trace_replay.specs.trace_lines.Reading.{seen, seen_rest};
 
 use access_types::{ArmOutcome, Claim, HitResult, Kind, Operation};
@@ -39,18 +39,67 @@ pub(crate) fn past<'a>(bytes: &'a [u8], word: &[u8]) -> Option<&'a [u8]>
     Some(&bytes[word.len()..])
 }
 
-/// A blank.
-pub(crate) fn blank(bytes: &[u8]) -> Option<&[u8]>
-    ensures { seen_rest result ≡ past (codes " ") bytes.now }
+/// The end of a line, where all before it was there.
+pub(crate) fn line_end(bytes: Option<&[u8]>) -> Option<&[u8]>
+    ensures { seen_rest result ≡ past_in (codes "\n") (seen_rest bytes.entry) }
 {
-    past(bytes, b" ")
+    past(bytes?, b"\n")
 }
 
-/// The end of a line.
-pub(crate) fn line_end(bytes: &[u8]) -> Option<&[u8]>
-    ensures { seen_rest result ≡ past (codes "\n") bytes.now }
+/// A blank, where all before it was there.
+pub(crate) fn blank(bytes: Option<&[u8]>) -> Option<&[u8]>
+    ensures { seen_rest result ≡ past_in (codes " ") (seen_rest bytes.entry) }
 {
-    past(bytes, b"\n")
+    past(bytes?, b" ")
+}
+
+/// A number in decimal behind a blank. Where it isn't there, or something before it wasn't, it is 0
+/// with no bytes behind it: so a line's fields are read one behind another, and only at its end is it
+/// asked whether all were there.
+#[tactic(auto, unfolding(crate::specs::trace_lines::FieldReaders::next))]
+pub(crate) fn next_decimal(bytes: Option<&[u8]>) -> (u64, Option<&[u8]>)
+    ensures { (result.0, seen_rest result.1) ≡ next decimal_at (seen_rest bytes.entry) }
+{
+    match blank(bytes) {
+        Some(rest) => parted(decimal(rest)),
+        None => (0, None),
+    }
+}
+
+/// The same for a number in hexadecimal.
+#[tactic(auto, unfolding(crate::specs::trace_lines::FieldReaders::next))]
+pub(crate) fn next_hexadecimal(bytes: Option<&[u8]>) -> (u64, Option<&[u8]>)
+    ensures { (result.0, seen_rest result.1) ≡ next hex_at (seen_rest bytes.entry) }
+{
+    match blank(bytes) {
+        Some(rest) => parted(hexadecimal(rest)),
+        None => (0, None),
+    }
+}
+
+/// A number and what is behind it, where it was there.
+fn parted(found: Option<(u64, &[u8])>) -> (u64, Option<&[u8]>)
+    ensures { (result.0, seen_rest result.1) ≡ parted (seen found.entry) }
+{
+    match found {
+        Some((value, rest)) => (value, Some(rest)),
+        None => (0, None),
+    }
+}
+
+/// The same for a ticket.
+#[tactic(auto, unfolding(crate::specs::trace_lines::FieldReaders::next))]
+pub(crate) fn next_ticket(bytes: Option<&[u8]>) -> (u32, Option<&[u8]>)
+    ensures { (result.0, seen_rest result.1) ≡ next ticket_at (seen_rest bytes.entry) }
+{
+    let found = match blank(bytes) {
+        Some(rest) => ticket(rest),
+        None => None,
+    };
+    match found {
+        Some((value, rest)) => (value, Some(rest)),
+        None => (0, None),
+    }
 }
 
 /// A number in decimal, without leading zeros.
@@ -156,8 +205,8 @@ pub(crate) fn name(bytes: &[u8]) -> Option<(AccessName, &[u8])>
     ensures limits { IfSome result (λ found. AreInLimits found.0) }
 {
     let (task, rest) = decimal(bytes)?;
-    let (site, rest) = decimal(blank(rest)?)?;
-    let (rep, rest) = repetition(rest)?;
+    let (site, rest) = next_decimal(Some(rest));
+    let (rep, rest) = repetition(rest?)?;
     Some((name_of(task, site, rep)?, rest))
 }
 

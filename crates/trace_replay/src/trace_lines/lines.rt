@@ -8,8 +8,8 @@ ghost use Rattle.trace_replay.specs.trace_lines.LineReaders.{access_at, access_o
 ghost use Rattle.trace_replay.specs.trace_lines.Reading.{IsLineAt, Reads, seen};
 
 use crate::trace_lines::fields::{
-    AccessLetters, AccessName, blank, decimal, hexadecimal, letters, line_end, name, outcome, past,
-    ticket,
+    AccessLetters, AccessName, blank, letters, line_end, name, next_decimal, next_hexadecimal,
+    next_ticket, outcome, past, ticket,
 };
 use access_types::{Access, Arm, Report, Stamped, Take};
 use report_text::Line;
@@ -54,12 +54,12 @@ fn access(bytes: &[u8]) -> Option<(Line, &[u8])>
     ensures { seen result ≡ access_at bytes.now }
 {
     let (name, rest) = name(bytes)?;
-    let (letters, rest) = letters(blank(rest)?)?;
-    let (addr, rest) = hexadecimal(blank(rest)?)?;
-    let (size, rest) = decimal(blank(rest)?)?;
-    let (mask, rest) = hexadecimal(blank(rest)?)?;
-    let (begin, rest) = decimal(blank(rest)?)?;
-    let (end, rest) = decimal(blank(rest)?)?;
+    let (letters, rest) = letters(past(rest, b" ")?)?;
+    let (addr, rest) = next_hexadecimal(Some(rest));
+    let (size, rest) = next_decimal(rest);
+    let (mask, rest) = next_hexadecimal(rest);
+    let (begin, rest) = next_decimal(rest);
+    let (end, rest) = next_decimal(rest);
     let rest = line_end(rest)?;
     Some((
         access_of(name, letters, addr, size, mask, begin, end)?,
@@ -95,11 +95,11 @@ fn arm(bytes: &[u8]) -> Option<(Line, &[u8])>
     ensures { seen result ≡ arm_at bytes.now }
 {
     let (setter, rest) = ticket(bytes)?;
-    let (number, rest) = decimal(blank(rest)?)?;
-    let (index, rest) = decimal(blank(rest)?)?;
-    let (word, rest) = hexadecimal(blank(rest)?)?;
+    let (number, rest) = next_decimal(Some(rest));
+    let (index, rest) = next_decimal(rest);
+    let (word, rest) = next_hexadecimal(rest);
     let (outcome, rest) = outcome(blank(rest)?)?;
-    let rest = line_end(rest)?;
+    let rest = line_end(Some(rest))?;
     let arm = Arm::new(setter, number, index as usize, word, outcome);
     Some((Line::Arm(arm), rest))
 }
@@ -110,8 +110,8 @@ fn take(bytes: &[u8]) -> Option<(Line, &[u8])>
     ensures { seen result ≡ take_at bytes.now }
 {
     let (finder, rest) = ticket(bytes)?;
-    let (index, rest) = decimal(blank(rest)?)?;
-    let (setter, rest) = ticket(blank(rest)?)?;
+    let (index, rest) = next_decimal(Some(rest));
+    let (setter, rest) = next_ticket(rest);
     let rest = line_end(rest)?;
     Some((Line::Take(Take::new(finder, index as usize, setter)), rest))
 }
@@ -122,7 +122,7 @@ fn race(bytes: &[u8]) -> Option<(Line, &[u8])>
     ensures { seen result ≡ race_at bytes.now }
 {
     let (setter, rest) = ticket(bytes)?;
-    let (finder, rest) = ticket(blank(rest)?)?;
+    let (finder, rest) = next_ticket(Some(rest));
     let rest = line_end(rest)?;
     let seen = None;
     Some((
@@ -141,8 +141,8 @@ fn origin(bytes: &[u8]) -> Option<(Line, &[u8])>
     ensures { seen result ≡ origin_at bytes.now }
 {
     let (setter, rest) = ticket(bytes)?;
-    let (old, rest) = hexadecimal(blank(rest)?)?;
-    let (new, rest) = hexadecimal(blank(rest)?)?;
+    let (old, rest) = next_hexadecimal(Some(rest));
+    let (new, rest) = next_hexadecimal(rest);
     let rest = line_end(rest)?;
     Some((Line::Report(Report::Unknown { setter, old, new }), rest))
 }
