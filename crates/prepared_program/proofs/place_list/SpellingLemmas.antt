@@ -1,7 +1,7 @@
 -- Which texts spell places.
-use Rattle.std.proofs.Common.{◌≡◌, ◌≢◌, ◌<◌, ◌++◌, ◌↔◌, ◌∙◌, ℕ, zero, suc, List, [], ◌∷◌, Bor}
+use Rattle.std.proofs.Common.{◌≡◌, ◌≢◌, ◌<◌, ◌++◌, ◌↔◌, ◌∙◌, ℕ, List, [], ◌∷◌, Bor}
 use Rattle.std.proofs.Common.{Option, None, Some, false, ap, arith, get_or, length}
-use Rattle.std.proofs.Common.{map, refl, sym, subst, take}
+use Rattle.std.proofs.Common.{refl, sym, subst}
 use Rattle.std.specs.Prelude.{MatchOption, ◌==◌, option_map}
 use Rattle.std.specs.List.{slice_split}
 use Rattle.std.proofs.lemmas.Bool.{ne_eqb}

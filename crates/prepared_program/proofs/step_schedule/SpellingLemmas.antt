@@ -1,8 +1,8 @@
 -- A text spells at most one entry: the one round its first `x`.
-use Rattle.std.proofs.Common.{◌≡◌, ◌≢◌, ◌<◌, ◌^◌, ◌++◌, ◌↔◌, ◌∙◌, ℕ, zero, suc, List, [], ◌∷◌, Bor}
+use Rattle.std.proofs.Common.{◌≡◌, ◌≢◌, ◌<◌, ◌^◌, ◌++◌, ◌↔◌, ◌∙◌, ℕ, List, [], ◌∷◌, Bor}
 use Rattle.std.proofs.Common.{Option, None, Some, Result, Ok, Err, true, false, ap, arith, get_or, length}
-use Rattle.std.proofs.Common.{map, refl, sym, subst, take}
-use Rattle.std.specs.Prelude.{All, MatchOption, ◌==◌}
+use Rattle.std.proofs.Common.{refl, sym, subst}
+use Rattle.std.specs.Prelude.{MatchOption, ◌==◌}
 use Rattle.std.specs.Int.{IsInRange}
 use Rattle.std.specs.Char.{is_ascii_digit}
 use Rattle.std.specs.List.{list_all, slice_split}

@@ -137,9 +137,7 @@ impl Layout {
         let mut laid = Vec::with_capacity(alloc, variables.len())?;
         for (number, variable) in variables.iter().enumerate() {
             let bytes = bytes_at(places, number, variable);
-            if let Err(e) = laid.push((bytes, initial_value(variable.contents))) {
-                return Err(AllocError::from(e).into());
-            }
+            laid.push_reserved((bytes, initial_value(variable.contents)));
         }
         Ok(Layout { variables: laid })
     }
@@ -217,7 +215,7 @@ impl Layout {
     {
         let mut words = Vec::with_capacity(alloc, addresses.len())?;
         for address in addresses {
-            words.push(self.word_at(*address / CELL))?;
+            words.push_reserved(self.word_at(*address / CELL));
         }
         Ok(words)
     }
