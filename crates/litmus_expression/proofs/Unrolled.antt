@@ -3,21 +3,26 @@ use Rattle.std.proofs.Common.{◌≡◌, ◌∙◌, ℕ, zero, suc, ◌+◌, ◌
 use Rattle.std.specs.Option.{is_some}
 use Rattle.litmus_lex.specs.declared.sign.Sign.TheVariants.{OpenParen, CloseParen, Comma}
 use Rattle.litmus_syntax.specs.declared.expression.BinaryOperator.{BinaryOperator}
+use Rattle.litmus_syntax.specs.declared.expression.ReadForm.{ReadForm}
 use Rattle.litmus_syntax.specs.declared.expression.UnaryOperator.{UnaryOperator}
 use Rattle.litmus_syntax.specs.Tree as tree
 use Rattle.litmus_lex.specs.declared.words.LoadWord.{LoadWord}
 use Rattle.litmus_lex.specs.declared.words.LoadWord.TheVariants as loads
-use Rattle.litmus_lex.specs.Front.{◌>>=◌, first, others, take_sign}
-use Rattle.litmus_lex.specs.Words.{Symbol}
+use Rattle.litmus_lex.specs.Front.{◌>>=◌, first, is_sign, others, take_sign}
+use Rattle.litmus_lex.specs.declared.sign.Sign.{Sign}
+use Rattle.litmus_lex.specs.declared.words.Word.TheVariants as words
+use Rattle.litmus_lex.specs.Words.{Symbol, word, sign}
 use Rattle.litmus_expression.specs.declared.expression.Rest.{Rest}
+use Rattle.litmus_expression.specs.declared.process.Takes.{Takes}
 use Rattle.litmus_expression.specs.declared.process.Takes.TheVariants.{Integers}
 use Rattle.litmus_expression.specs.ExpressionReader.{Readers, Beginning, a_number, parenthesis, a_load, a_name, nothing}
 use Rattle.litmus_expression.specs.ExpressionReader.{Loader, starred, called, nothing_loads, by, deep, idle, readers, all_of_it, applied, beginning_of, binary_at, closed, combined}
+use Rattle.litmus_expression.specs.ExpressionReader.{called_word, is_a_load, open_load, plain_operand, plain_with, read_with, starred_read, starred_with}
 use Rattle.litmus_expression.specs.ExpressionReader.{fetch_with, is_foreign, loader_of, more_with, of_level, opened, operand_with, prefixed_with, pure_of, take_operator, unary_at}
 use Rattle.litmus_expression.specs.ExpressionReader.{level_at, more_at, prefixed_at, operand_at, loading_at, load_at, fetch_at, arguments_at, pure_at}
-use Rattle.litmus_expression.specs.NameReader.{count_access, take_variable}
+use Rattle.litmus_expression.specs.NameReader.{count_access, take_variable, variable_before}
 use Rattle.litmus_expression.specs.States.{State, after, with_left}
-use Rattle.litmus_expression.proofs.Taken.{sign_fewer}
+use Rattle.litmus_expression.proofs.Taken.{is_sign_is, sign_fewer}
 use Rattle.litmus_expression.proofs.Shorter.{Shorter, Less, AtMost, Found, deep_shorter, access_same, opened_at_most, variable_fewer, unary_some, binary_some, beginning_some, loader_some}
 
 -- ---- two readings that agree go on alike
@@ -314,5 +319,112 @@ prefixed_fails t d k s r e = level_fails t d 0 k s r (omega arith) (level_unroll
 pub more_fails : (t d j k : ℕ) (s : State) (r : Rest) (x : Found) → level_at t d j s r ≡ Some x → more_at t d (j + 1) x.0 x.1 x.2 ≡ None → j < k → level_at t d k s r ≡ None
 more_fails t d j k s r x e none lt =
     level_fails t d (j + 1) k s r (omega arith) (level_next t d j s r ∙ ap (λ (o : Option Found). o >>= λ z. more_at t d (j + 1) z.0 z.1 z.2) e ∙ none)
+
+-- ---- parts that are read without the readers: which of them an operand and a load are
+
+pub beginning_parenthesis : (x : Symbol) → beginning_of x ≡ parenthesis → x ≡ sign OpenParen
+beginning_parenthesis (sign OpenParen) e = refl
+beginning_parenthesis (word words.DataRace) e = absurd cc
+beginning_parenthesis (word (words.Load l)) e = absurd cc
+beginning_parenthesis (word _) e = absurd cc
+beginning_parenthesis _ e = absurd cc
+
+pub operand_enclosed : (t d : ℕ) (s : State) (r : Rest) → is_sign OpenParen (first s.symbols) ≡ true
+    → operand_at t d s r ≡ operand_with readers t d s r parenthesis
+operand_enclosed t d s r e =
+    operand_unrolls t d s r ∙ ap (λ (b : Beginning). operand_with readers t d s r b) (ap beginning_of (is_sign_is OpenParen (first s.symbols) e))
+
+operand_loads_by : (t d : ℕ) (s : State) (r : Rest) (b : Beginning) → is_a_load b ≡ true → operand_with readers t d s r b ≡ loading_at t d s r
+operand_loads_by t d s r (a_number n) e = absurd cc
+operand_loads_by t d s r parenthesis e = absurd cc
+operand_loads_by t d s r a_load e = refl
+operand_loads_by t d s r a_name e = absurd cc
+operand_loads_by t d s r nothing e = absurd cc
+
+pub operand_loads : (t d : ℕ) (s : State) (r : Rest) → is_a_load (beginning_of (first s.symbols)) ≡ true
+    → operand_at t d s r ≡ loading_at t d s r
+operand_loads t d s r e = operand_unrolls t d s r ∙ operand_loads_by t d s r (beginning_of (first s.symbols)) e
+
+operand_plain_by : (t d : ℕ) (s : State) (r : Rest) (b : Beginning) → beginning_of (first s.symbols) ≡ b → is_sign OpenParen (first s.symbols) ≡ false
+    → is_a_load b ≡ false → operand_with readers t d s r b ≡ (plain_with s b >>= λ x. Some (x.0, x.1, r))
+operand_plain_by t d s r (a_number n) is no_parenthesis no_load = refl
+operand_plain_by t d s r parenthesis is no_parenthesis no_load =
+    let enclosed : is_sign OpenParen (first s.symbols) ≡ true = ap (is_sign OpenParen) (beginning_parenthesis (first s.symbols) is) in
+    absurd cc
+operand_plain_by t d s r a_load is no_parenthesis no_load = absurd cc
+operand_plain_by t d s r a_name is no_parenthesis no_load = refl
+operand_plain_by t d s r nothing is no_parenthesis no_load = refl
+
+pub operand_plain : (t d : ℕ) (s : State) (r : Rest) → is_sign OpenParen (first s.symbols) ≡ false → is_a_load (beginning_of (first s.symbols)) ≡ false
+    → operand_at t d s r ≡ (plain_operand s >>= λ x. Some (x.0, x.1, r))
+unfolding plain_operand
+operand_plain t d s r no_parenthesis no_load =
+    operand_unrolls t d s r ∙ operand_plain_by t d s r (beginning_of (first s.symbols)) refl no_parenthesis no_load
+
+pub ruleset operands = (operand_enclosed, operand_loads, operand_plain)
+
+abbrev pub fetch_by_word : (t d : ℕ) → State → Option LoadWord → Option (tree.Fetch × State)
+fetch_by_word t d s (Some w) = fetch_with readers t d s (called w)
+fetch_by_word t d s None = starred_read s
+
+fetch_by : (t d : ℕ) (s : State) (l : Loader) → loader_of (first s.symbols) ≡ l → fetch_with readers t d s l ≡ fetch_by_word t d s (called_word l)
+unfolding starred_read
+fetch_by t d s starred is = ap (starred_with s) (sym is)
+fetch_by t d s (called w) is = refl
+fetch_by t d s nothing_loads is = ap (starred_with s) (sym is)
+
+pub fetch_begins : (t d : ℕ) (s : State) → fetch_at t d s ≡ fetch_by_word t d s (called_word (loader_of (first s.symbols)))
+fetch_begins t d s = fetch_unrolls t d s ∙ fetch_by t d s (loader_of (first s.symbols)) refl
+
+-- a variable and the sign behind it, or one reader behind the other
+pub variable_joins : {A : Type 0} (g : Sign) (k : Takes) (s : State) (f : ℕ × State → Option A)
+    → (variable_before g k s >>= f) ≡ (take_variable k s >>= λ v. take_sign g v.1.symbols >>= λ l. f (v.0, with_left v.1 l))
+unfolding variable_before
+variable_joins {A} g k s f = bound (take_variable k s)
+  where
+    signed : (v : ℕ × State) (o : Option (List Symbol)) → ((o >>= λ l. Some (v.0, with_left v.1 l)) >>= f) ≡ (o >>= λ l. f (v.0, with_left v.1 l))
+    signed v None = refl
+    signed v (Some l) = refl
+
+    bound : (o : Option (ℕ × State)) → ((o >>= λ v. take_sign g v.1.symbols >>= λ l. Some (v.0, with_left v.1 l)) >>= f)
+        ≡ (o >>= λ v. take_sign g v.1.symbols >>= λ l. f (v.0, with_left v.1 l))
+    bound None = refl
+    bound (Some v) = signed v (take_sign g v.1.symbols)
+
+pub arguments_read : (t d : ℕ) (form : ReadForm) (s : State) → arguments_at t d (loads.Read form) s ≡ read_with form s
+arguments_read t d form s = arguments_unrolls t d (loads.Read form) s
+
+pub arguments_exchange : (t d : ℕ) (s : State) → arguments_at t d loads.Exchange s
+    ≡ (variable_before Comma Integers s >>= λ v. pure_at t d v.1 >>= λ x. Some (tree.exchange v.0 x.0, x.1))
+arguments_exchange t d s =
+    arguments_unrolls t d loads.Exchange s ∙ sym (variable_joins Comma Integers s (λ v. pure_at t d v.1 >>= λ x. Some (tree.exchange v.0 x.0, x.1)))
+
+pub arguments_compare : (t d : ℕ) (s : State) → arguments_at t d loads.CompareExchange s
+    ≡ (variable_before Comma Integers s >>= λ v. pure_at t d v.1 >>= λ x. take_sign Comma x.1.symbols >>= λ l.
+    pure_at t d (with_left x.1 l) >>= λ y. Some (tree.compare_exchange v.0 x.0 y.0, y.1))
+arguments_compare t d s =
+    arguments_unrolls t d loads.CompareExchange s
+    ∙ sym (variable_joins Comma Integers s (λ v. pure_at t d v.1 >>= λ x. take_sign Comma x.1.symbols >>= λ l.
+    pure_at t d (with_left x.1 l) >>= λ y. Some (tree.compare_exchange v.0 x.0 y.0, y.1)))
+
+pub ruleset arguments = (arguments_read, arguments_exchange, arguments_compare)
+
+-- a load, where its access is counted with each `data_race (`
+pub load_opens : (t d : ℕ) (s : State) → load_at t d s
+    ≡ (open_load t s >>= λ o. fetch_at t d o.1 >>= λ x. closed o.0 x.1.symbols >>= λ l. Some (record { data_races = o.0; fetch = x.0 }, with_left x.1 l))
+unfolding open_load
+load_opens t d s = load_unrolls t d s ∙ bound (count_access t s)
+  where
+    behind : ℕ × State → Option (tree.Load × State)
+    behind o = fetch_at t d o.1 >>= λ x. closed o.0 x.1.symbols >>= λ l. Some (record { data_races = o.0; fetch = x.0 }, with_left x.1 l)
+
+    raced : (c : State) (o : Option (ℕ × List Symbol)) → (o >>= λ races. behind (races.0, with_left c races.1)) ≡ ((o >>= λ races. Some (races.0, with_left c races.1)) >>= behind)
+    raced c None = refl
+    raced c (Some races) = refl
+
+    bound : (o : Option State) → (o >>= λ c. opened 0 c.symbols >>= λ races. behind (races.0, with_left c races.1))
+        ≡ ((o >>= λ c. opened 0 c.symbols >>= λ races. Some (races.0, with_left c races.1)) >>= behind)
+    bound None = refl
+    bound (Some c) = raced c (opened 0 c.symbols)
 
 pub ruleset unrolls = (level_unrolls, more_unrolls, prefixed_unrolls, operand_unrolls, loading_unrolls, load_unrolls, fetch_unrolls, arguments_unrolls, pure_unrolls)

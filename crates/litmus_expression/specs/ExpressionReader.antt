@@ -103,6 +103,10 @@ beginning_of (sign Star) = a_load
 beginning_of (sign _) = nothing
 beginning_of fault = nothing
 
+abbrev pub is_a_load : Beginning → Bool
+is_a_load a_load = true
+is_a_load _ = false
+
 -- how a load without `data_race` begins
 pub data Loader : Type 0 where
   starred : Loader
@@ -120,6 +124,12 @@ loader_of (number n) = nothing_loads
 loader_of (sign Star) = starred
 loader_of (sign _) = nothing_loads
 loader_of fault = nothing_loads
+
+-- the word of a load, if it begins with one
+abbrev pub called_word : Loader → Option LoadWord
+called_word starred = None
+called_word (called l) = Some l
+called_word nothing_loads = None
 
 abbrev pub is_race : Option Word → Bool
 is_race (Some words.DataRace) = true
@@ -149,6 +159,17 @@ register_operand s =
     then None
     else (take_register s >>= λ x. Some (tree.pure (tree.register x.0), x.1))
 
+-- a number or REG as an operand
+abbrev pub plain_with : State → Beginning → Option (tree.Expression × State)
+plain_with s (a_number n) = Some (tree.pure (tree.number n), after s)
+plain_with s parenthesis = None
+plain_with s a_load = None
+plain_with s a_name = register_operand s
+plain_with s nothing = None
+
+unfoldable pub plain_operand : State → Option (tree.Expression × State)
+plain_operand s = plain_with s (beginning_of (first s.symbols))
+
 -- the `*` before a variable is taken
 unfoldable pub take_star : State → Option State
 take_star s = take_sign Star s.symbols >>= λ symbols. Some (with_left s symbols)
@@ -163,6 +184,20 @@ read_by reads.Atomic = Atomics
 -- VAR of a load
 unfoldable pub read_of : ReadForm → State → Option (tree.Fetch × State)
 read_of form s = take_variable (read_by form) s >>= λ x. Some (tree.read form x.0, x.1)
+
+-- `* VAR` as a load
+abbrev pub starred_with : State → Loader → Option (tree.Fetch × State)
+starred_with s starred = read_of reads.Plain (after s)
+starred_with s (called w) = None
+starred_with s nothing_loads = None
+
+unfoldable pub starred_read : State → Option (tree.Fetch × State)
+starred_read s = starred_with s (loader_of (first s.symbols))
+
+-- a load's access is counted, each `data_race (` before it is taken, and how many they are
+unfoldable pub open_load : (turns : ℕ) → State → Option (ℕ × State)
+open_load turns s =
+    count_access turns s >>= λ counted. opened 0 counted.symbols >>= λ races. Some (races.0, with_left counted races.1)
 
 -- what an expression may have before anything of it is read
 abbrev pub all_of_it : Bool → Rest

@@ -2,13 +2,14 @@
 use Rattle.std.specs.Prelude.{ℕ, List, [], ◌∷◌, ◌+◌, ◌++◌, ◌==◌, nat_lt, Option, Some, None, Bool, true, false, find, is_some, length, position, if◌then◌else◌}
 use Rattle.litmus_lex.specs.declared.words.VariableType.{VariableType}
 use Rattle.litmus_lex.specs.declared.words.VariableType.TheVariants.{Char, Short, Int, Long, Atomic, Lock}
-use Rattle.litmus_lex.specs.Front.{◌>>=◌, begins_call, first, identifier_at}
+use Rattle.litmus_lex.specs.declared.sign.Sign.{Sign}
+use Rattle.litmus_lex.specs.Front.{◌>>=◌, begins_call, first, identifier_at, take_sign}
 use Rattle.litmus_lex.specs.Words.{is_same}
 use Rattle.litmus_expression.specs.declared.process.Takes.{Takes}
 use Rattle.litmus_expression.specs.declared.process.Takes.TheVariants.{Integers, Atomics, Locks, Memory}
 use Rattle.litmus_syntax.specs.Limits.{registers_limit, repeats_limit}
 use Rattle.litmus_expression.specs.Names.{Names, Parameter}
-use Rattle.litmus_expression.specs.States.{State, after}
+use Rattle.litmus_expression.specs.States.{State, after, with_left}
 
 -- an access is counted, where the loops repeat it so often
 abbrev pub count_access : ℕ → State → Option State
@@ -56,6 +57,10 @@ variable_named takes s (Some name) = variable_of takes s (parameter_named s.para
 -- VAR is taken, of a type that the form takes
 unfoldable pub take_variable : Takes → State → Option (ℕ × State)
 take_variable takes s = variable_named takes s (identifier_at (first s.symbols))
+
+-- VAR and the sign behind it are taken
+unfoldable pub variable_before : Sign → Takes → State → Option (ℕ × State)
+variable_before sign takes s = take_variable takes s >>= λ v. take_sign sign v.1.symbols >>= λ symbols. Some (v.0, with_left v.1 symbols)
 
 -- the place of a name
 unfoldable pub index_of : Names → List ℕ → Option ℕ

@@ -3,15 +3,15 @@
 //! Where a refusal leaves an expression behind, a call of `drop` drops it: at a `?` each of its forms would be a path
 //! of the proof.
 
-ghost use Rattle.std.specs.Prelude.{◌≡◌, ◌≤◌, ◌<◌, ◌+◌, false, IfOk, IsSome, OnErr, OnOk, IsTrue, option_map};
+ghost use Rattle.std.specs.Prelude.{◌≡◌, ◌≤◌, ◌<◌, ◌+◌, ◌-◌, false, IfOk, IsSome, OnErr, OnOk, IsTrue, Some, option_map};
 ghost use Rattle.litmus_syntax.specs.Views.{expression_of, fetch_of, load_of, pure_of};
-ghost use Rattle.litmus_lex.specs.Front.{Answers, first, symbol_of_token, symbols_left};
+ghost use Rattle.litmus_lex.specs.Front.{Answers, first, others, symbol_of_token, symbols_left};
 ghost use Rattle.litmus_expression.specs.Expressions.{level_of};
 ghost use Rattle.litmus_expression.specs.ExpressionReader as reader;
 ghost use Rattle.litmus_expression.specs.States.{state_of};
 ghost use Rattle.litmus_lex.specs.Cursor.{count_left, is_end};
 
-use crate::process::{Process, Surroundings, Takes};
+use crate::process::{Process, Surroundings, Takes, address_or_offence, open_call, take_behind};
 use litmus_lex::{Cursor, Excess, Expected, LoadWord, Refusal, Sign, Token, Unread, Word};
 use litmus_syntax::{
     BinaryOperator, Expression, Fetch, Load, Loading, Pure, ReadForm, UnaryOperator,
@@ -32,20 +32,17 @@ struct Rest {
 }
 
 impl Rest {
-    ghost use Rattle.litmus_lex.specs.Front.{Answers};
-    ghost use Rattle.litmus_expression.specs.ExpressionReader as reader;
-
-    /// Counts an operator, which stands at the place.
-    fn take_operator(&mut self, at: usize) -> Result<(), Refusal>
-        ensures { Answers result (λ _. self.new) (reader.take_operator self.old) }
+    /// Takes the operator that is next, and counts it.
+    fn take_operator(&mut self, cursor: &mut Cursor<'_>) -> Result<(), Refusal>
+        ensures reads { Answers result (λ _. self.new) (reader.take_operator self.old) }
+        ensures shorter { OnOk result (count_left cursor.new ≡ count_left cursor.old - 1) }
+        ensures symbols { OnOk result (symbols_left cursor.new ≡ others (symbols_left cursor.old)) }
     {
         if self.operators == 0 {
-            return Err(Refusal::Limit {
-                at,
-                excess: Excess::Operators,
-            });
+            return Err(cursor.excess(Excess::Operators));
         }
         self.operators -= 1;
+        cursor.advance();
         Ok(())
     }
 }
@@ -113,13 +110,34 @@ fn is_foreign_operator(token: Token<'_>) -> bool
     )
 }
 
+/// The refusal of a token that is next where an operand stands.
+fn operand_offence(cursor: &Cursor<'_>, token: Token<'_>) -> Refusal {
+    if is_foreign_operator(token) {
+        return cursor.unsupported(Unread::Operator, Expected::Expression);
+    }
+    address_or_offence(cursor, Expected::Expression)
+}
+
+/// The operand, where no operator is next that no expression takes.
+fn before_operator(cursor: &Cursor<'_>, operand: Expression) -> Result<Expression, Refusal>
+    ensures same { IfOk result (λ found. found ≡ operand) }
+    ensures ok { OnOk result (reader.is_foreign (first (symbols_left cursor.now)) ≡ false) }
+    ensures err { OnErr result (IsTrue (reader.is_foreign (first (symbols_left cursor.now)))) }
+{
+    if is_foreign_operator(cursor.token()) {
+        drop(operand);
+        return Err(cursor.unsupported(Unread::Operator, Expected::Operator));
+    }
+    Ok(operand)
+}
+
 /// An operator before an operand.
 fn applied(
     alloc: Global,
     operator: UnaryOperator,
     operand: Expression,
-) -> Result<Expression, AllocError>
-    ensures { IfOk result (λ whole. expression_of whole ≡ reader.applied operator (expression_of operand)) }
+) -> Result<Expression, Refusal>
+    ensures { Answers result expression_of (Some (reader.applied operator (expression_of operand))) }
 {
     match operand {
         Expression::Pure(operand) => {
@@ -145,42 +163,62 @@ fn boxed_beside<T: Drop, U: Drop>(
     Ok((Box::new(alloc, value)?, other))
 }
 
-/// An operator between two operands. None: both hold a load.
+/// An operator between two operands. Where both hold a load, the refusal is given.
 fn combined(
     alloc: Global,
     left: Expression,
     operator: BinaryOperator,
     right: Expression,
-) -> Result<Option<Expression>, AllocError>
-    ensures { IfOk result (λ whole. option_map expression_of whole ≡ reader.combined (expression_of left) operator (expression_of right)) }
+    refusal: Refusal,
+) -> Result<Expression, Refusal>
+    ensures { Answers result expression_of (reader.combined (expression_of left) operator (expression_of right)) }
 {
     match left {
-        Expression::Pure(left) => {
-            let combined = match right {
-                Expression::Pure(right) => {
-                    let (left, right) = boxed_beside(alloc, left, right)?;
-                    let (right, left) = boxed_beside(alloc, right, left)?;
-                    Expression::Pure(Pure::Binary(operator, left, right))
-                }
-                Expression::Loading(right) => {
-                    let (right, left) = boxed_beside(alloc, right, left)?;
-                    Expression::Loading(Loading::Right(operator, left, right))
-                }
-            };
-            Ok(Some(combined))
-        }
+        Expression::Pure(left) => match right {
+            Expression::Pure(right) => {
+                let (left, right) = boxed_beside(alloc, left, right)?;
+                let (right, left) = boxed_beside(alloc, right, left)?;
+                Ok(Expression::Pure(Pure::Binary(operator, left, right)))
+            }
+            Expression::Loading(right) => {
+                let (right, left) = boxed_beside(alloc, right, left)?;
+                Ok(Expression::Loading(Loading::Right(operator, left, right)))
+            }
+        },
         Expression::Loading(left) => match right {
             Expression::Pure(right) => {
                 let (left, right) = boxed_beside(alloc, left, right)?;
-                Ok(Some(Expression::Loading(Loading::Left(operator, left, right))))
+                Ok(Expression::Loading(Loading::Left(operator, left, right)))
             }
             // Two loads would be two accesses at one site, so an expression has one at most.
             Expression::Loading(right) => {
                 drop(left);
                 drop(right);
-                Ok(None)
+                Err(refusal)
             }
         },
+    }
+}
+
+/// Whether an operand that is next is a load.
+fn is_at_load(cursor: &Cursor<'_>) -> bool
+    ensures { result ≡ reader.is_a_load (reader.beginning_of (first (symbols_left cursor.now))) }
+{
+    match cursor.token() {
+        Token::Sign(Sign::Star) => true,
+        Token::Name(_) => matches!(cursor.word(), Some(Word::DataRace | Word::Load(_))),
+        _ => false,
+    }
+}
+
+/// The word of a load that is next.
+fn load_word(cursor: &Cursor<'_>) -> Option<LoadWord>
+    ensures exact { result ≡ reader.called_word (reader.loader_of (first (symbols_left cursor.now))) }
+    ensures some { IsSome result → 0 < count_left cursor.now }
+{
+    match cursor.word() {
+        Some(Word::Load(word)) => Some(word),
+        _ => None,
     }
 }
 
@@ -217,6 +255,29 @@ fn close_data_races(cursor: &mut Cursor<'_>, count: u64) -> Result<(), Refusal>
         cursor.take(Sign::CloseParen)?;
     }
     Ok(())
+}
+
+/// The refusal of the next token where a load stands.
+fn load_offence(cursor: &Cursor<'_>) -> Refusal {
+    match cursor.refuse_call(Expected::Load) {
+        Err(refusal) if cursor.word().is_none() => refusal,
+        _ => address_or_offence(cursor, Expected::Load),
+    }
+}
+
+/// A load, whose `data_race (` were so many, once their `)` are taken.
+fn close_load(cursor: &mut Cursor<'_>, data_races: u64, fetch: Fetch) -> Result<Load, Refusal>
+    ensures same { IfOk result (λ load. (load.data_races ≡ data_races) × (load.fetch ≡ fetch)) }
+    ensures moves { OnOk result (count_left cursor.new ≤ count_left cursor.old) }
+    ensures reads { Answers result (λ _. symbols_left cursor.new) (reader.closed data_races (symbols_left cursor.old)) }
+{
+    match close_data_races(cursor, data_races) {
+        Ok(()) => Ok(Load { data_races, fetch }),
+        Err(refusal) => {
+            drop(fetch);
+            Err(refusal)
+        }
+    }
 }
 
 impl<'a> Process<'a> {
@@ -293,15 +354,12 @@ impl<'a> Process<'a> {
         let mut left = operand;
         while let Some(operator) = operator_at(self.cursor.token(), level) {
             let unsupported = self.cursor.unsupported(Unread::Load, Expected::Pure);
-            if let Err(refusal) = rest.take_operator(self.cursor.at()) {
+            if let Err(refusal) = rest.take_operator(&mut self.cursor) {
                 drop(left);
                 return Err(refusal);
             }
-            self.cursor.advance();
             match self.level(level - 1, around, rest) {
-                Ok(right) => {
-                    left = combined(self.alloc, left, operator, right)?.ok_or(unsupported)?;
-                }
+                Ok(right) => left = combined(self.alloc, left, operator, right, unsupported)?,
                 Err(refusal) => {
                     drop(left);
                     return Err(refusal);
@@ -320,56 +378,45 @@ impl<'a> Process<'a> {
     {
         let Some(operator) = unary_operator(self.cursor.token()) else {
             let operand = self.operand(around, rest)?;
-            // Another operator may stand here.
-            return match self.refuse_foreign_operator(Expected::Operator) {
-                Ok(()) => Ok(operand),
-                Err(refusal) => {
-                    drop(operand);
-                    Err(refusal)
-                }
-            };
+            return before_operator(&self.cursor, operand);
         };
-        rest.take_operator(self.cursor.at())?;
-        self.cursor.advance();
+        rest.take_operator(&mut self.cursor)?;
         let operand = self.prefixed(around, rest)?;
-        Ok(applied(self.alloc, operator, operand)?)
+        applied(self.alloc, operator, operand)
     }
 
     /// A number, a register, a load, or an expression in parentheses.
     #[cycle(expression)]
-    #[tactic(auto, using(crate::proofs::Unrolled::unrolls))]
+    #[tactic(auto, using(crate::proofs::Unrolled::operands))]
     fn operand(&mut self, around: &Surroundings, rest: &mut Rest) -> Result<Expression, Refusal>
         ensures moves { OnOk result (count_left self.new.cursor < count_left self.old.cursor) }
         ensures reads { Answers result (λ found. (expression_of found, state_of self.new, rest.new)) (reader.operand_at around.now.turns around.now.depth (state_of self.old) rest.old) }
+    {
+        if self.cursor.is_at(Sign::OpenParen) {
+            let inside = around.deeper(self.cursor.at())?;
+            self.cursor.advance();
+            let expression = self.level(WEAKEST, &inside, rest)?;
+            return take_behind(&mut self.cursor, expression, Sign::CloseParen);
+        }
+        if is_at_load(&self.cursor) {
+            return self.loading(around, rest);
+        }
+        self.plain_operand()
+    }
+
+    /// A number or a register as an operand.
+    #[tactic(auto, unfolding(crate::specs::ExpressionReader::plain_operand))]
+    fn plain_operand(&mut self) -> Result<Expression, Refusal>
+        ensures moves { OnOk result (count_left self.new.cursor < count_left self.old.cursor) }
+        ensures reads { Answers result (λ found. (expression_of found, state_of self.new)) (reader.plain_operand (state_of self.old)) }
     {
         match self.cursor.token() {
             Token::Number(number) => {
                 self.cursor.advance();
                 Ok(Expression::Pure(Pure::Number(number)))
             }
-            Token::Sign(Sign::OpenParen) => {
-                let inside = around.deeper(self.cursor.at())?;
-                self.cursor.advance();
-                let expression = self.level(WEAKEST, &inside, rest)?;
-                match self.cursor.take(Sign::CloseParen) {
-                    Ok(()) => Ok(expression),
-                    Err(refusal) => {
-                        drop(expression);
-                        Err(refusal)
-                    }
-                }
-            }
-            Token::Sign(Sign::Star) => self.loading(around, rest),
-            Token::Name(_) => match self.cursor.word() {
-                Some(Word::DataRace | Word::Load(_)) => self.loading(around, rest),
-                Some(_) => Err(self.cursor.offence(Expected::Expression)),
-                None => self.register_operand(),
-            },
-            _ => {
-                self.refuse_foreign_operator(Expected::Expression)?;
-                self.cursor.refuse_address(Expected::Expression)?;
-                Err(self.cursor.offence(Expected::Expression))
-            }
+            Token::Name(_) if self.cursor.word().is_none() => self.register_operand(),
+            token => Err(operand_offence(&self.cursor, token)),
         }
     }
 
@@ -399,87 +446,75 @@ impl<'a> Process<'a> {
 
     /// A load, inside any number of `data_race( )`.
     #[cycle(expression)]
-    #[tactic(auto, using(crate::proofs::Unrolled::unrolls))]
+    #[tactic(auto, using(crate::proofs::Unrolled::load_opens))]
     pub fn load(&mut self, around: &Surroundings) -> Result<Load, Refusal>
         ensures reads { Answers result (λ found. (load_of found, state_of self.new)) (reader.load_at around.now.turns around.now.depth (state_of self.old)) }
         ensures moves { OnOk result (count_left self.new.cursor < count_left self.old.cursor) }
         ensures enclosed { IfOk result (λ load. load.data_races < count_left self.old.cursor) }
     {
+        let data_races = self.open_load(around)?;
+        let fetch = self.fetch(around)?;
+        close_load(&mut self.cursor, data_races, fetch)
+    }
+
+    /// Counts the access of a load, takes each `data_race (` before it, and answers how many.
+    #[tactic(auto, unfolding(crate::specs::ExpressionReader::open_load))]
+    fn open_load(&mut self, around: &Surroundings) -> Result<u64, Refusal>
+        ensures moves { IfOk result (λ count. count + count_left self.new.cursor ≤ count_left self.old.cursor) }
+        ensures reads { Answers result (λ count. (count, state_of self.new)) (reader.open_load around.now.turns (state_of self.old)) }
+    {
         self.count_access(around)?;
         let data_races = open_data_races(&mut self.cursor)?;
         let at = self.cursor.at();
         self.note_access(at)?;
-        let fetch = self.fetch(around)?;
-        match close_data_races(&mut self.cursor, data_races) {
-            Ok(()) => Ok(Load { data_races, fetch }),
-            Err(refusal) => {
-                drop(fetch);
-                Err(refusal)
-            }
-        }
+        Ok(data_races)
     }
 
     /// A load without `data_race`.
     #[cycle(expression)]
-    #[tactic(auto, using(crate::proofs::Unrolled::unrolls))]
+    #[tactic(auto, using(crate::proofs::Unrolled::fetch_begins))]
     fn fetch(&mut self, around: &Surroundings) -> Result<Fetch, Refusal>
         ensures moves { OnOk result (count_left self.new.cursor < count_left self.old.cursor) }
         ensures reads { Answers result (λ found. (fetch_of found, state_of self.new)) (reader.fetch_at around.now.turns around.now.depth (state_of self.old)) }
     {
+        let Some(word) = load_word(&self.cursor) else {
+            return self.starred_read();
+        };
+        open_call(&mut self.cursor)?;
+        let fetch = self.fetch_of_word(word, around)?;
+        take_behind(&mut self.cursor, fetch, Sign::CloseParen)
+    }
+
+    /// `* VAR` as a load.
+    #[tactic(auto, unfolding(crate::specs::ExpressionReader::starred_read))]
+    fn starred_read(&mut self) -> Result<Fetch, Refusal>
+        ensures moves { OnOk result (count_left self.new.cursor < count_left self.old.cursor) }
+        ensures reads { Answers result (λ found. (fetch_of found, state_of self.new)) (reader.starred_read (state_of self.old)) }
+    {
         if self.cursor.accept(Sign::Star) {
             return self.read(ReadForm::Plain);
         }
-        match self.cursor.word() {
-            Some(Word::Load(word)) => {
-                self.cursor.advance();
-                self.cursor.take(Sign::OpenParen)?;
-                let fetch = self.fetch_of_word(word, around)?;
-                match self.cursor.take(Sign::CloseParen) {
-                    Ok(()) => Ok(fetch),
-                    Err(refusal) => {
-                        drop(fetch);
-                        Err(refusal)
-                    }
-                }
-            }
-            Some(_) => Err(self.cursor.offence(Expected::Load)),
-            None => {
-                self.cursor.refuse_call(Expected::Load)?;
-                self.cursor.refuse_address(Expected::Load)?;
-                Err(self.cursor.offence(Expected::Load))
-            }
-        }
+        Err(load_offence(&self.cursor))
     }
 
     /// What stands between the parentheses of a load.
     #[cycle(expression)]
-    #[tactic(auto, using(crate::proofs::Unrolled::unrolls))]
+    #[tactic(auto, using(crate::proofs::Unrolled::arguments))]
     fn fetch_of_word(&mut self, word: LoadWord, around: &Surroundings) -> Result<Fetch, Refusal>
         ensures moves { OnOk result (count_left self.new.cursor < count_left self.old.cursor) }
         ensures reads { Answers result (λ found. (fetch_of found, state_of self.new)) (reader.arguments_at around.now.turns around.now.depth word (state_of self.old)) }
     {
         match word {
-            // No word is a plain read.
-            LoadWord::Read(ReadForm::Plain) => Err(self.cursor.offence(Expected::Load)),
-            LoadWord::Read(ReadForm::Once) => {
-                self.take_star()?;
-                self.read(ReadForm::Once)
-            }
-            LoadWord::Read(form) => self.read(form),
+            LoadWord::Read(form) => self.read_of_form(form),
             LoadWord::Exchange => {
-                let variable = self.take_variable(Takes::Integers)?;
-                self.cursor.take(Sign::Comma)?;
+                let variable = self.take_variable_before(Sign::Comma, Takes::Integers)?;
                 let value = self.pure(around)?;
                 Ok(Fetch::Exchange { variable, value })
             }
             LoadWord::CompareExchange => {
-                let variable = self.take_variable(Takes::Integers)?;
-                self.cursor.take(Sign::Comma)?;
+                let variable = self.take_variable_before(Sign::Comma, Takes::Integers)?;
                 let expected = self.pure(around)?;
-                if let Err(refusal) = self.cursor.take(Sign::Comma) {
-                    drop(expected);
-                    return Err(refusal);
-                }
+                let expected = take_behind(&mut self.cursor, expected, Sign::Comma)?;
                 match self.pure(around) {
                     Ok(replacement) => Ok(Fetch::CompareExchange {
                         variable,
@@ -492,6 +527,22 @@ impl<'a> Process<'a> {
                     }
                 }
             }
+        }
+    }
+
+    /// What stands between the parentheses of a load that only reads.
+    fn read_of_form(&mut self, form: ReadForm) -> Result<Fetch, Refusal>
+        ensures moves { OnOk result (count_left self.new.cursor < count_left self.old.cursor) }
+        ensures reads { Answers result (λ found. (fetch_of found, state_of self.new)) (reader.read_with form (state_of self.old)) }
+    {
+        match form {
+            // No word is a plain read.
+            ReadForm::Plain => Err(self.cursor.offence(Expected::Load)),
+            ReadForm::Once => {
+                self.take_star()?;
+                self.read(form)
+            }
+            ReadForm::Acquire | ReadForm::Atomic => self.read(form),
         }
     }
 
@@ -518,19 +569,6 @@ impl<'a> Process<'a> {
         if self.cursor.accept(Sign::Star) {
             return Ok(());
         }
-        self.cursor.refuse_address(Expected::Sign(Sign::Star))?;
-        Err(self.cursor.offence(Expected::Sign(Sign::Star)))
-    }
-
-    /// Refuses an operator that no expression takes, where an operator or an operand may stand.
-    fn refuse_foreign_operator(&self, expected: Expected) -> Result<(), Refusal>
-        ensures ok { OnOk result (reader.is_foreign (first (symbols_left self.now.cursor)) ≡ false) }
-        ensures err { OnErr result (IsTrue (reader.is_foreign (first (symbols_left self.now.cursor)))) }
-    {
-        if is_foreign_operator(self.cursor.token()) {
-            Err(self.cursor.unsupported(Unread::Operator, expected))
-        } else {
-            Ok(())
-        }
+        Err(address_or_offence(&self.cursor, Expected::Sign(Sign::Star)))
     }
 }

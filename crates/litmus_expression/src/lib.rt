@@ -7,4 +7,7 @@ pub mod limits;
 pub mod process;
 
 pub use expression::OPERATORS;
-pub use process::{NESTING, Parameter, Process, REGISTERS, Surroundings, Takes};
+pub use process::{
+    NESTING, Parameter, Process, REGISTERS, Surroundings, Takes, address_or_offence, open_call,
+    take_behind,
+};

@@ -3,9 +3,11 @@
 ghost use Rattle.std.specs.Prelude.{◌≡◌, ◌≤◌, ◌<◌, ◌+◌, ◌==◌, false, length, IsTrue, OnErr, vec_len, IfOk, IfSome, IsSome, OnOk, find, position};
 ghost use Rattle.litmus_lex.specs.Words.{is_same};
 ghost use Rattle.litmus_lex.specs.Cursor.{count_left};
+ghost use Rattle.litmus_lex.specs.Front.{Answers, others, symbols_left, take_sign};
+ghost use Rattle.litmus_lex.specs.declared.sign.Sign.TheVariants.{OpenParen};
 ghost use Rattle.litmus_syntax.specs.Limits.{nesting_limit, registers_limit, repeats_limit, scoped_limit, statements_limit, turns_limit};
 
-use litmus_lex::{Cursor, Excess, Expected, Fault, Refusal, Unread, VariableType};
+use litmus_lex::{Cursor, Excess, Expected, Fault, Refusal, Sign, Unread, VariableType};
 use std::alloc::{AllocError, Global};
 
 /// How many registers a task can have.
@@ -90,7 +92,6 @@ pub struct Surroundings {
 }
 
 impl Surroundings {
-    ghost use Rattle.litmus_lex.specs.Front.{Answers};
     ghost use Rattle.litmus_expression.specs.Places as places;
     ghost use Rattle.litmus_expression.specs.Places.{outermost, place_of};
 
@@ -209,6 +210,33 @@ fn find_name(names: &[&[u8]], name: &[u8]) -> Option<usize>
     names.iter().position(|other| *other == name)
 }
 
+/// The refusal of the next token where a variable or a load may stand: an address of a variable is unsupported.
+pub fn address_or_offence(cursor: &Cursor<'_>, expected: Expected) -> Refusal {
+    match cursor.refuse_address(expected) {
+        Ok(()) => cursor.offence(expected),
+        Err(refusal) => refusal,
+    }
+}
+
+/// Takes the `(` behind the word that is next.
+pub fn open_call(cursor: &mut Cursor<'_>) -> Result<(), Refusal>
+    ensures moves { OnOk result (count_left cursor.new < count_left cursor.old) }
+    ensures reads { Answers result (λ _. symbols_left cursor.new) (take_sign OpenParen (others (symbols_left cursor.old))) }
+{
+    cursor.advance();
+    cursor.take(Sign::OpenParen)
+}
+
+/// Takes the sign behind a value, and gives the value back.
+pub fn take_behind<T: Drop>(cursor: &mut Cursor<'_>, value: T, sign: Sign) -> Result<T, Refusal>
+    ensures same { IfOk result (λ found. found ≡ value) }
+    ensures moves { OnOk result (count_left cursor.new < count_left cursor.old) }
+    ensures reads { Answers result (λ _. symbols_left cursor.new) (take_sign sign (symbols_left cursor.old)) }
+{
+    cursor.take(sign)?;
+    Ok(value)
+}
+
 /// A process, as far as it is read. The cursor stands at the token that is read next.
 #[derive(Drop)]
 pub struct Process<'a> {
@@ -230,7 +258,7 @@ pub struct Process<'a> {
 
 impl<'a> Process<'a> {
     ghost use Rattle.std.specs.Prelude.{IfNone, map, option_map};
-    ghost use Rattle.litmus_lex.specs.Front.{Answers, first, identifier_at, now, symbols_left};
+    ghost use Rattle.litmus_lex.specs.Front.{first, identifier_at, now};
     ghost use Rattle.litmus_expression.specs.NameReader as reader;
     ghost use Rattle.litmus_expression.specs.PlaceReader as places;
     ghost use Rattle.litmus_expression.specs.Places.{place_of};
@@ -327,18 +355,29 @@ impl<'a> Process<'a> {
         ensures moves { OnOk result (count_left self.new.cursor < count_left self.old.cursor) }
         ensures reads { Answers result (λ variable. (variable, state_of self.new)) (reader.take_variable takes (state_of self.old)) }
     {
+        let expected = takes.expected();
         let Some(name) = self.cursor.identifier() else {
-            self.cursor.refuse_address(takes.expected())?;
-            return Err(self.cursor.offence(takes.expected()));
+            return Err(address_or_offence(&self.cursor, expected));
         };
         let Some(parameter) = self.parameter(name) else {
-            return Err(self.cursor.syntax(Fault::Unknown, takes.expected()));
+            return Err(self.cursor.syntax(Fault::Unknown, expected));
         };
         if !takes.contains(parameter.variable_type) {
-            return Err(self.cursor.unsupported(Unread::OtherType, takes.expected()));
+            return Err(self.cursor.unsupported(Unread::OtherType, expected));
         }
         self.cursor.advance();
         Ok(parameter.variable)
+    }
+
+    /// Takes a variable and the sign behind it.
+    #[tactic(auto, unfolding(crate::specs::NameReader::variable_before))]
+    pub fn take_variable_before(&mut self, sign: Sign, takes: Takes) -> Result<usize, Refusal>
+        ensures moves { OnOk result (count_left self.new.cursor < count_left self.old.cursor) }
+        ensures reads { Answers result (λ variable. (variable, state_of self.new)) (reader.variable_before sign takes (state_of self.old)) }
+    {
+        let variable = self.take_variable(takes)?;
+        self.cursor.take(sign)?;
+        Ok(variable)
     }
 
     /// The name that is next, if it is a register's: no word and no parameter.
@@ -382,10 +421,10 @@ impl<'a> Process<'a> {
         if let Some(register) = self.register_of(name) {
             return Ok(register);
         }
-        if self.registers.len() == REGISTERS {
+        let register = self.registers.len();
+        if register == REGISTERS {
             return Err(self.cursor.excess(Excess::Registers));
         }
-        let register = self.registers.len();
         self.registers.push(name)?;
         Ok(register)
     }
