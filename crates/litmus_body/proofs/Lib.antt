@@ -3,6 +3,7 @@ pub mod Fewer
 pub mod Declared
 pub mod Shorter
 pub mod Unrolled
+pub mod Joined
 pub mod SimpleSound
 pub mod SimpleComplete
 pub mod CallLemmas

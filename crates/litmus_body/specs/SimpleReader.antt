@@ -9,6 +9,7 @@ use Rattle.litmus_lex.specs.declared.words.Word.{Word}
 use Rattle.litmus_lex.specs.declared.words.Word.TheVariants as words
 use Rattle.litmus_lex.specs.Front.{◌>>=◌, begins_call, first, is_sign, others, take_sign}
 use Rattle.litmus_lex.specs.Words.{Symbol, word, identifier, number, sign, fault}
+use Rattle.litmus_expression.specs.declared.process.Takes.{Takes}
 use Rattle.litmus_expression.specs.declared.process.Takes.TheVariants.{Integers}
 use Rattle.litmus_expression.specs.Expressions.{bare}
 use Rattle.litmus_expression.specs.ExpressionReader.{expression_at, load_at, pure_at, take_star}
@@ -43,6 +44,10 @@ start_of (sign Star) = star
 start_of (sign _) = nothing
 start_of fault = nothing
 
+-- an assignment as a simple statement
+abbrev pub assigned : Option (tree.Assignment × State) → Option (Enclosable × State)
+assigned found = found >>= λ x. Some (assignment x.0, x.1)
+
 -- REG = expr
 unfoldable pub register_assignment : NestingPlace → State → Option (tree.Assignment × State)
 register_assignment p s =
@@ -59,6 +64,10 @@ behind_variable p variable s =
     else (if is_sign AddAssign (first s.symbols)
     then (pure_at p.turns p.depth (after s) >>= λ x. Some (assignment (tree.add variable x.0), x.1))
     else Some (load (bare (tree.read reads.Plain variable)), s))
+
+-- `* VAR`
+unfoldable pub starred_variable : Takes → State → Option (ℕ × State)
+starred_variable takes s = take_star s >>= λ u. take_variable takes u
 
 -- `* VAR = pure`, `* VAR += pure`, or the load `* VAR`
 unfoldable pub starred : NestingPlace → State → Option (Enclosable × State)

@@ -2,6 +2,7 @@
 -- expressions, each part is given by how it calls the parts, which are a record of readers, with fuel.
 use Rattle.std.specs.Prelude.{ℕ, zero, suc, List, [], ◌∷◌, ◌+◌, ◌*◌, ◌==◌, Option, Some, None, Bool, true, false, length, if◌then◌else◌}
 use Rattle.litmus_lex.specs.declared.sign.Sign.TheVariants.{OpenBrace, CloseBrace, OpenParen, CloseParen, Semicolon, Comma, Assign, Increment, Star, Less}
+use Rattle.litmus_lex.specs.declared.sign.Sign.{Sign}
 use Rattle.litmus_syntax.specs.Tree as tree
 use Rattle.litmus_syntax.specs.declared.statement.Call.{Call}
 use Rattle.litmus_syntax.specs.declared.statement.Call.TheVariants as calls
@@ -76,13 +77,18 @@ more_declared counters s (a ∷ b ∷ symbols) =
     then (take_changed counters (with_left s (b ∷ symbols)) >>= λ r. more_declared counters r.1 symbols)
     else Some (with_left s (a ∷ b ∷ symbols))
 
+-- `= expr ;` behind `stype REG`
+abbrev pub declared_value : NestingPlace → (register : ℕ) → State → Option (Option tree.Statement × State)
+declared_value p register s =
+    count_statement s >>= λ counted. expression_at p.turns p.depth (after counted) >>= λ x.
+    take_sign Semicolon x.1.symbols >>= λ symbols.
+    Some (Some (tree.assign false (tree.to_register register x.0)), with_left x.1 symbols)
+
 -- what may stand behind `stype REG`: `= expr ;`, or more registers and `;`
 abbrev pub behind_register : NestingPlace → (register : ℕ) → State → Option (Option tree.Statement × State)
 behind_register p register s =
     if is_sign Assign (first s.symbols)
-    then (count_statement s >>= λ counted. expression_at p.turns p.depth (after counted) >>= λ x.
-    take_sign Semicolon x.1.symbols >>= λ symbols.
-    Some (Some (tree.assign false (tree.to_register register x.0)), with_left x.1 symbols))
+    then declared_value p register s
     else (more_declared p.counters s s.symbols >>= λ u. take_sign Semicolon u.symbols >>= λ symbols.
     Some (None, with_left u symbols))
 
@@ -109,6 +115,14 @@ is_the_register names register (Some name) = is_number register (index_of names 
 -- the register of a loop is taken once more
 unfoldable pub take_again : (register : ℕ) → State → Option State
 take_again register s = if is_the_register s.names register (register_name s) then Some (after s) else None
+
+-- the register of a loop is taken once more, and the sign behind it
+unfoldable pub again_before : Sign → (register : ℕ) → State → Option State
+again_before g register s = take_again register s >>= λ u. take_sign g u.symbols >>= λ symbols. Some (with_left u symbols)
+
+-- `= 0 ;`
+abbrev pub take_start : List Symbol → Option (List Symbol)
+take_start symbols = take_sign Assign symbols >>= λ given. take_zero given >>= λ behind_zero. take_sign Semicolon behind_zero
 
 -- `( REG = 0 ;` of a loop
 unfoldable pub counter_at : (counters : List Bool) → State → Option (ℕ × State)
@@ -159,6 +173,12 @@ begins_scope _ = false
 abbrev pub behind : NestingPlace → Option tree.Statement → Option NestingPlace
 behind p None = Some p
 behind p (Some s) = if begins_scope s then asserting p else Some p
+
+-- `if ( expr )`, whose word is next
+unfoldable pub condition_at : NestingPlace → State → Option (tree.Expression × State)
+condition_at p s =
+    take_sign OpenParen (others s.symbols) >>= λ opened. expression_at p.turns p.depth (with_left s opened) >>= λ condition.
+    take_sign CloseParen condition.1.symbols >>= λ symbols. Some (condition.0, with_left condition.1 symbols)
 
 -- the parts, each at a place
 pub record Readers : Type 0 where

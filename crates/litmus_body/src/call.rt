@@ -9,7 +9,8 @@ ghost use Rattle.litmus_expression.specs.States.{state_of};
 ghost use Rattle.litmus_body.specs.CallReader as reader;
 ghost use Rattle.litmus_body.specs.StatementReader as statements;
 
-use litmus_expression::{Process, Surroundings, Takes};
+use crate::simple::take_starred;
+use litmus_expression::{Process, Surroundings, Takes, open_call, take_behind};
 use litmus_lex::{CallWord, Excess, Expected, Refusal, Sign};
 use litmus_syntax::{Call, Mark};
 
@@ -44,11 +45,9 @@ pub fn read_call(
 {
     let at = process.cursor.at();
     count_call(process, word, around, at)?;
-    process.cursor.advance();
-    process.cursor.take(Sign::OpenParen)?;
+    open_call(&mut process.cursor)?;
     let call = call_of_word(process, word, around, at)?;
-    process.cursor.take(Sign::CloseParen)?;
-    Ok(call)
+    take_behind(&mut process.cursor, call, Sign::CloseParen)
 }
 
 /// Counts the scope and the access of an assertion, which begins at the place.
@@ -75,7 +74,7 @@ fn count_call(
 }
 
 /// What stands between the parentheses of a call that begins at the place.
-#[tactic(auto, unfolding(crate::specs::CallReader::arguments))]
+#[tactic(auto, unfolding(crate::specs::CallReader::arguments, crate::specs::CallReader::target, crate::specs::SimpleReader::starred_variable))]
 fn call_of_word(
     process: &mut Process<'_>,
     word: CallWord,
@@ -101,15 +100,15 @@ fn call_of_word(
             Ok(Call::Unlock { variable })
         }
         CallWord::AssertWriter { scoped } => {
-            let variable = take_target(process)?;
+            let variable = take_starred(process, Takes::Memory)?;
             Ok(Call::AssertWriter { variable, scoped })
         }
         CallWord::AssertAccess { scoped } => {
-            let variable = take_target(process)?;
+            let variable = take_starred(process, Takes::Memory)?;
             Ok(Call::AssertAccess { variable, scoped })
         }
         CallWord::AssertBits => {
-            let variable = take_target(process)?;
+            let variable = take_starred(process, Takes::Memory)?;
             process.cursor.take(Sign::Comma)?;
             let mask = process.cursor.take_number()?;
             Ok(Call::AssertBits { variable, mask })
@@ -119,7 +118,7 @@ fn call_of_word(
 }
 
 /// `VAR , NUMBER` of a check that begins at the place. One of size 0 has no access.
-#[tactic(auto, unfolding(crate::specs::CallReader::check))]
+#[tactic(auto, using(crate::proofs::Joined::check_joins))]
 fn read_check(
     process: &mut Process<'_>,
     write: bool,
@@ -130,8 +129,7 @@ fn read_check(
     ensures reads { Answers result (λ call. (call, state_of process.new))
         (reader.check (place_of around.now).turns write (state_of process.old)) }
 {
-    let variable = process.take_variable(Takes::Memory)?;
-    process.cursor.take(Sign::Comma)?;
+    let variable = process.take_variable_before(Sign::Comma, Takes::Memory)?;
     let excess = process.cursor.excess(Excess::Check);
     let size = process.cursor.take_number()?;
     if size > CHECK_SIZE {
@@ -145,14 +143,4 @@ fn read_check(
         variable,
         size,
     })
-}
-
-/// `* VAR` of an assertion.
-#[tactic(auto, unfolding(crate::specs::CallReader::target))]
-fn take_target(process: &mut Process<'_>) -> Result<usize, Refusal>
-    ensures moves { OnOk result (count_left process.new.cursor < count_left process.old.cursor) }
-    ensures reads { Answers result (λ variable. (variable, state_of process.new)) (reader.target (state_of process.old)) }
-{
-    process.take_star()?;
-    process.take_variable(Takes::Memory)
 }

@@ -14,7 +14,7 @@ ghost use Rattle.litmus_body.specs.SimpleReader as reader;
 ghost use Rattle.litmus_body.specs.Statements.{alone, raced};
 ghost use Rattle.litmus_body.specs.StoreReader as stores;
 
-use litmus_expression::{Process, Surroundings, Takes};
+use litmus_expression::{Process, Surroundings, Takes, address_or_offence, open_call, take_behind};
 use litmus_lex::{Expected, Refusal, Sign, StoreWord, Token, Word};
 use litmus_syntax::{Assignment, Fetch, Load, ReadForm, Statement, WriteForm};
 
@@ -69,15 +69,12 @@ pub fn read_simple(process: &mut Process<'_>, around: &Surroundings) -> Result<S
         Token::Sign(Sign::Star) => read_starred(process, around),
         Token::Sign(Sign::OpenParen) => read_increment(process, around),
         Token::Name(_) => match process.cursor.word() {
-            Some(Word::Store(word)) => Ok(Simple::Assignment(read_store(process, word, around)?)),
+            Some(Word::Store(word)) => read_store(process, word, around),
             Some(Word::DataRace | Word::Load(_)) => Ok(Simple::Load(process.load(around)?)),
             Some(_) => Err(process.cursor.offence(Expected::Simple)),
-            None => Ok(Simple::Assignment(read_register_assignment(process, around)?)),
+            None => read_register_assignment(process, around),
         },
-        _ => {
-            process.cursor.refuse_address(Expected::Simple)?;
-            Err(process.cursor.offence(Expected::Simple))
-        }
+        _ => Err(address_or_offence(&process.cursor, Expected::Simple)),
     }
 }
 
@@ -86,20 +83,21 @@ pub fn read_simple(process: &mut Process<'_>, around: &Surroundings) -> Result<S
 fn read_register_assignment(
     process: &mut Process<'_>,
     around: &Surroundings,
-) -> Result<Assignment, Refusal>
+) -> Result<Simple, Refusal>
+    ensures enclosed { IfOk result (λ simple. data_races_of simple ≡ 0) }
     ensures moves { OnOk result (count_left process.new.cursor < count_left process.old.cursor) }
-    ensures reads { Answers result (λ found. (assignment_of found, state_of process.new))
-        (reader.register_assignment (place_of around.now) (state_of process.old)) }
+    ensures reads { Answers result (λ found. (enclosable_of found, state_of process.new))
+        (reader.assigned (reader.register_assignment (place_of around.now) (state_of process.old))) }
 {
     process.cursor.refuse_call(Expected::Simple)?;
     let register = process.take_changed_register(around)?;
     process.cursor.take(Sign::Assign)?;
     let value = process.expression(around)?;
-    Ok(Assignment::Register { register, value })
+    Ok(Simple::Assignment(Assignment::Register { register, value }))
 }
 
 /// `* VAR = pure`, `* VAR += pure`, or the load `* VAR`.
-#[tactic(auto, unfolding(crate::specs::SimpleReader::starred))]
+#[tactic(auto, using(crate::proofs::Joined::starred_joins))]
 fn read_starred(process: &mut Process<'_>, around: &Surroundings) -> Result<Simple, Refusal>
     ensures enclosed { IfOk result (λ simple. data_races_of simple ≡ 0) }
     ensures moves { OnOk result (count_left process.new.cursor < count_left process.old.cursor) }
@@ -108,8 +106,32 @@ fn read_starred(process: &mut Process<'_>, around: &Surroundings) -> Result<Simp
 {
     let at = process.cursor.at();
     process.count_access_at(around, at)?;
+    let variable = take_starred(process, Takes::Integers)?;
+    read_behind_variable(process, variable, around)
+}
+
+/// `* VAR`
+#[tactic(auto, unfolding(crate::specs::SimpleReader::starred_variable))]
+pub fn take_starred(process: &mut Process<'_>, takes: Takes) -> Result<usize, Refusal>
+    ensures moves { OnOk result (count_left process.new.cursor < count_left process.old.cursor) }
+    ensures reads { Answers result (λ variable. (variable, state_of process.new))
+        (reader.starred_variable takes (state_of process.old)) }
+{
     process.take_star()?;
-    let variable = process.take_variable(Takes::Integers)?;
+    process.take_variable(takes)
+}
+
+/// `= pure`, `+= pure`, or nothing, behind `* VAR`.
+fn read_behind_variable(
+    process: &mut Process<'_>,
+    variable: usize,
+    around: &Surroundings,
+) -> Result<Simple, Refusal>
+    ensures enclosed { IfOk result (λ simple. data_races_of simple ≡ 0) }
+    ensures moves { OnOk result (count_left process.new.cursor ≤ count_left process.old.cursor) }
+    ensures reads { Answers result (λ found. (enclosable_of found, state_of process.new))
+        (reader.behind_variable (place_of around.now) variable (state_of process.old)) }
+{
     if process.cursor.accept(Sign::Assign) {
         let value = process.pure(around)?;
         return Ok(Simple::Assignment(Assignment::Write {
@@ -132,7 +154,7 @@ fn read_starred(process: &mut Process<'_>, around: &Surroundings) -> Result<Simp
 }
 
 /// `( * VAR ) ++`
-#[tactic(auto, unfolding(crate::specs::SimpleReader::increment))]
+#[tactic(auto, using(crate::proofs::Joined::increment_joins))]
 fn read_increment(process: &mut Process<'_>, around: &Surroundings) -> Result<Simple, Refusal>
     ensures enclosed { IfOk result (λ simple. data_races_of simple ≡ 0) }
     ensures moves { OnOk result (count_left process.new.cursor < count_left process.old.cursor) }
@@ -143,8 +165,7 @@ fn read_increment(process: &mut Process<'_>, around: &Surroundings) -> Result<Si
     process.count_access_at(around, at)?;
     process.cursor.take(Sign::OpenParen)?;
     process.take_star()?;
-    let variable = process.take_variable(Takes::Integers)?;
-    process.cursor.take(Sign::CloseParen)?;
+    let variable = process.take_variable_before(Sign::CloseParen, Takes::Integers)?;
     process.cursor.take(Sign::Increment)?;
     Ok(Simple::Assignment(Assignment::Increment { variable }))
 }
@@ -155,23 +176,18 @@ fn read_store(
     process: &mut Process<'_>,
     word: StoreWord,
     around: &Surroundings,
-) -> Result<Assignment, Refusal>
+) -> Result<Simple, Refusal>
+    ensures enclosed { IfOk result (λ simple. data_races_of simple ≡ 0) }
     ensures moves { OnOk result (count_left process.new.cursor < count_left process.old.cursor) }
-    ensures reads { Answers result (λ found. (assignment_of found, state_of process.new))
-        (stores.store_at (place_of around.now).turns (place_of around.now).depth word (state_of process.old)) }
+    ensures reads { Answers result (λ found. (enclosable_of found, state_of process.new))
+        (reader.assigned (stores.store_at (place_of around.now).turns (place_of around.now).depth word (state_of process.old))) }
 {
     let at = process.cursor.at();
     process.count_access_at(around, at)?;
-    process.cursor.advance();
-    process.cursor.take(Sign::OpenParen)?;
+    open_call(&mut process.cursor)?;
     let assignment = store_of_word(process, word, around)?;
-    match process.cursor.take(Sign::CloseParen) {
-        Ok(()) => Ok(assignment),
-        Err(refusal) => {
-            drop(assignment);
-            Err(refusal)
-        }
-    }
+    let assignment = take_behind(&mut process.cursor, assignment, Sign::CloseParen)?;
+    Ok(Simple::Assignment(assignment))
 }
 
 /// What stands between the parentheses of a call that changes a variable.
@@ -189,10 +205,7 @@ fn store_of_word(
         StoreWord::Write(form) => read_write(process, form, around),
         StoreWord::Add => {
             let value = process.pure(around)?;
-            if let Err(refusal) = process.cursor.take(Sign::Comma) {
-                drop(value);
-                return Err(refusal);
-            }
+            let value = take_behind(&mut process.cursor, value, Sign::Comma)?;
             match process.take_variable(Takes::Atomics) {
                 Ok(variable) => Ok(Assignment::AtomicAdd { value, variable }),
                 Err(refusal) => {
@@ -235,7 +248,7 @@ fn read_write(
 }
 
 /// `VAR , pure`
-#[tactic(auto, unfolding(crate::specs::StoreReader::written))]
+#[tactic(auto, using(crate::proofs::Joined::written_joins))]
 fn read_written(
     process: &mut Process<'_>,
     takes: Takes,
@@ -246,8 +259,7 @@ fn read_written(
     ensures reads { Answers result (λ found. (assignment_of found, state_of process.new))
         (stores.written (place_of around.now).turns (place_of around.now).depth takes form (state_of process.old)) }
 {
-    let variable = process.take_variable(takes)?;
-    process.cursor.take(Sign::Comma)?;
+    let variable = process.take_variable_before(Sign::Comma, takes)?;
     let value = process.pure(around)?;
     Ok(Assignment::Write {
         form,

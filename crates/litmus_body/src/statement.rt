@@ -3,9 +3,10 @@
 //! Where a refusal leaves a statement or an expression behind, a call of `drop` drops it: at a `?` each of its forms
 //! would be a path of the proof.
 
-ghost use Rattle.std.specs.Prelude.{◌≡◌, ◌≤◌, ◌<◌, ◌+◌, ◌^◌, IfOk, IsTrue, OnOk, option_map};
+ghost use Rattle.std.specs.Prelude.{◌≡◌, ◌≤◌, ◌<◌, ◌+◌, ◌^◌, IfOk, IsTrue, OnOk, Some, option_map};
 ghost use Rattle.litmus_syntax.specs.Limits.{registers_limit, turns_limit};
-ghost use Rattle.litmus_syntax.specs.Views.{block_of, statement_of};
+ghost use Rattle.litmus_syntax.specs.Tree as tree;
+ghost use Rattle.litmus_syntax.specs.Views.{block_of, expression_of, statement_of};
 ghost use Rattle.litmus_lex.specs.Cursor.{count_left};
 ghost use Rattle.litmus_lex.specs.Front.{Answers, first, symbols_left};
 ghost use Rattle.litmus_expression.specs.PlaceReader.{take_changed};
@@ -13,12 +14,14 @@ ghost use Rattle.litmus_expression.specs.Places.{place_of};
 ghost use Rattle.litmus_expression.specs.States.{state_of};
 ghost use Rattle.litmus_body.specs.SimpleReader.{data_race_at};
 ghost use Rattle.litmus_body.specs.StatementReader as reader;
+ghost use Rattle.litmus_body.specs.Statements.{kept};
 
 use crate::call::{is_scoped, read_call};
 use crate::simple::read_simple;
-use litmus_expression::{Process, Surroundings};
+use litmus_expression::{Process, Surroundings, address_or_offence, open_call, take_behind};
 use litmus_lex::{CallWord, Cursor, Expected, Fault, Refusal, Sign, Token, VariableType, Word};
-use litmus_syntax::{Assignment, Call, Statement};
+use litmus_syntax::{Assignment, Call, Expression, Statement};
+use std::alloc::Global;
 
 /// How a statement begins.
 #[derive(Clone, Copy)]
@@ -108,20 +111,36 @@ pub fn read_block(
     process.cursor.advance();
     let mut statements = Vec::new(process.alloc);
     while !process.cursor.accept(Sign::CloseBrace) {
-        if let Some(statement) = read_statement(process, inside)? {
-            match behind(process, inside, &statement) {
-                Ok(later) => {
-                    inside = later;
-                    statements.push(statement)?;
-                }
-                Err(refusal) => {
-                    drop(statement);
-                    return Err(refusal);
-                }
-            }
-        }
+        let statement = read_statement(process, inside)?;
+        inside = keep(&mut statements, statement, process, inside)?;
     }
     Ok(statements)
+}
+
+/// Puts the statement, if it is one that is kept, at the end of its block, and answers what stands round what follows.
+#[tactic(auto, using(crate::proofs::Blocks::block_more))]
+fn keep(
+    statements: &mut Vec<Statement>,
+    statement: Option<Statement>,
+    process: &Process<'_>,
+    around: Surroundings,
+) -> Result<Surroundings, Refusal>
+    ensures added { OnOk result (block_of statements.new.items ≡ reader.added (block_of statements.old.items) (option_map statement_of statement)) }
+    ensures reads { Answers result place_of (reader.behind (place_of around) (option_map statement_of statement)) }
+{
+    let Some(statement) = statement else {
+        return Ok(around);
+    };
+    match behind(process, around, &statement) {
+        Ok(later) => {
+            statements.push(statement)?;
+            Ok(later)
+        }
+        Err(refusal) => {
+            drop(statement);
+            Err(refusal)
+        }
+    }
 }
 
 /// A block, or one statement, which is a block of its own.
@@ -138,8 +157,16 @@ fn read_body(process: &mut Process<'_>, around: Surroundings) -> Result<Vec<Stat
     // A token that begins no statement offends before it could open a block.
     let _ = opening_of(process)?;
     let inside = around.deeper(process.cursor.at())?;
-    let mut statements = Vec::new(process.alloc);
-    if let Some(statement) = read_statement(process, inside)? {
+    let statement = read_statement(process, inside)?;
+    block_of_one(process.alloc, statement)
+}
+
+/// A block of the statement, if it is one that is kept.
+fn block_of_one(alloc: Global, statement: Option<Statement>) -> Result<Vec<Statement>, Refusal>
+    ensures { Answers result (λ block. block_of block.items) (Some (kept (option_map statement_of statement) tree.empty)) }
+{
+    let mut statements = Vec::new(alloc);
+    if let Some(statement) = statement {
         statements.push(statement)?;
     }
     Ok(statements)
@@ -189,10 +216,7 @@ fn opening_of(process: &Process<'_>) -> Result<Opening, Refusal>
                 Ok(Opening::Counted(Counted::Simple))
             }
         },
-        _ => {
-            process.cursor.refuse_address(Expected::Statement)?;
-            Err(process.cursor.offence(Expected::Statement))
-        }
+        _ => Err(address_or_offence(&process.cursor, Expected::Statement)),
     }
 }
 
@@ -214,18 +238,15 @@ fn read_counted(
         Counted::DataRace => read_data_race(process, &around),
         Counted::Call(word) => {
             let call = read_call(process, word, &around)?;
-            process.cursor.take(Sign::Semicolon)?;
-            Ok(Statement::Call(call))
+            take_behind(&mut process.cursor, Statement::Call(call), Sign::Semicolon)
         }
         Counted::Simple => {
             let simple = read_simple(process, &around)?;
-            match process.cursor.take(Sign::Semicolon) {
-                Ok(()) => Ok(simple.into_statement()),
-                Err(refusal) => {
-                    drop(simple);
-                    Err(refusal)
-                }
-            }
+            take_behind(
+                &mut process.cursor,
+                simple.into_statement(),
+                Sign::Semicolon,
+            )
         }
     }
 }
@@ -244,24 +265,34 @@ fn read_declaration(
     let register = take_declared_register(process, around)?;
     // With a value it is an assignment, which counts; without one it is nothing that a task does.
     if process.cursor.is_at(Sign::Assign) {
-        process.count_statement()?;
-        process.cursor.advance();
-        let value = process.expression(around)?;
-        if let Err(refusal) = process.cursor.take(Sign::Semicolon) {
-            drop(value);
-            return Err(refusal);
-        }
-        let assignment = Assignment::Register { register, value };
-        return Ok(Some(Statement::Assign {
-            data_race: false,
-            assignment,
-        }));
+        return read_declared_value(process, register, around);
     }
     take_more_declared(process, around)?;
     process
         .cursor
         .take_where(Sign::Semicolon, Expected::DeclarationEnd)?;
     Ok(None)
+}
+
+/// `= expr ;` behind a register that is declared.
+fn read_declared_value(
+    process: &mut Process<'_>,
+    register: usize,
+    around: &Surroundings,
+) -> Result<Option<Statement>, Refusal>
+    ensures moves { OnOk result (count_left process.new.cursor < count_left process.old.cursor) }
+    ensures reads { Answers result (λ found. (option_map statement_of found, state_of process.new))
+        (reader.declared_value (place_of around.now) register (state_of process.old)) }
+{
+    process.count_statement()?;
+    process.cursor.advance();
+    let value = process.expression(around)?;
+    let value = take_behind(&mut process.cursor, value, Sign::Semicolon)?;
+    let assignment = Assignment::Register { register, value };
+    Ok(Some(Statement::Assign {
+        data_race: false,
+        assignment,
+    }))
 }
 
 /// Takes each `, REG` that is next.
@@ -298,37 +329,34 @@ fn read_data_race(process: &mut Process<'_>, around: &Surroundings) -> Result<St
     ensures reads { Answers result (λ found. (statement_of found, state_of process.new))
         (data_race_at (place_of around.now) (state_of process.old)) }
 {
-    process.cursor.advance();
-    process.cursor.take(Sign::OpenParen)?;
+    open_call(&mut process.cursor)?;
     let simple = read_simple(process, around)?;
-    if let Err(refusal) = process.cursor.take(Sign::CloseParen) {
-        drop(simple);
-        return Err(refusal);
-    }
-    match process.cursor.take(Sign::Semicolon) {
-        Ok(()) => Ok(simple.into_data_race()),
-        Err(refusal) => {
-            drop(simple);
-            Err(refusal)
-        }
-    }
+    let simple = take_behind(&mut process.cursor, simple, Sign::CloseParen)?;
+    let simple = take_behind(&mut process.cursor, simple, Sign::Semicolon)?;
+    Ok(simple.into_data_race())
+}
+
+/// `if ( expr )`
+#[tactic(auto, unfolding(crate::specs::StatementReader::condition_at))]
+fn read_condition(process: &mut Process<'_>, around: &Surroundings) -> Result<Expression, Refusal>
+    ensures moves { OnOk result (count_left process.new.cursor < count_left process.old.cursor) }
+    ensures reads { Answers result (λ found. (expression_of found, state_of process.new))
+        (reader.condition_at (place_of around.now) (state_of process.old)) }
+{
+    open_call(&mut process.cursor)?;
+    let condition = process.expression(around)?;
+    take_behind(&mut process.cursor, condition, Sign::CloseParen)
 }
 
 /// `if ( expr ) body`, and `else body` or not.
 #[cycle(statement)]
-#[tactic(auto, using(crate::proofs::Unrolled::unrolls))]
+#[tactic(auto, using(crate::proofs::Joined::branches))]
 fn read_branch(process: &mut Process<'_>, around: Surroundings) -> Result<Statement, Refusal>
     ensures moves { OnOk result (count_left process.new.cursor < count_left process.old.cursor) }
     ensures reads { Answers result (λ found. (statement_of found, state_of process.new))
         (reader.branch_at (place_of around) (state_of process.old)) }
 {
-    process.cursor.advance();
-    process.cursor.take(Sign::OpenParen)?;
-    let condition = process.expression(&around)?;
-    if let Err(refusal) = process.cursor.take(Sign::CloseParen) {
-        drop(condition);
-        return Err(refusal);
-    }
+    let condition = read_condition(process, &around)?;
     let body = match read_body(process, around) {
         Ok(body) => body,
         Err(refusal) => {
@@ -390,7 +418,7 @@ fn read_loop_header(process: &mut Process<'_>, around: &Surroundings) -> Result<
 }
 
 /// `( REG = 0 ;`
-#[tactic(auto, unfolding(crate::specs::StatementReader::counter_at))]
+#[tactic(auto, using(crate::proofs::Joined::counter_joins))]
 fn read_counter(process: &mut Process<'_>, around: &Surroundings) -> Result<usize, Refusal>
     ensures moves { OnOk result (count_left process.new.cursor < count_left process.old.cursor) }
     ensures within { IfOk result (λ register. register < registers_limit) }
@@ -399,14 +427,22 @@ fn read_counter(process: &mut Process<'_>, around: &Surroundings) -> Result<usiz
 {
     process.cursor.take_of_form(Sign::OpenParen)?;
     let register = take_counter(process, around)?;
-    process.cursor.take_of_form(Sign::Assign)?;
-    take_zero(&mut process.cursor)?;
-    process.cursor.take_of_form(Sign::Semicolon)?;
+    take_start(&mut process.cursor)?;
     Ok(register)
 }
 
+/// `= 0 ;`
+fn take_start(cursor: &mut Cursor<'_>) -> Result<(), Refusal>
+    ensures moves { OnOk result (count_left cursor.new < count_left cursor.old) }
+    ensures reads { Answers result (λ _. symbols_left cursor.new) (reader.take_start (symbols_left cursor.old)) }
+{
+    cursor.take_of_form(Sign::Assign)?;
+    take_zero(cursor)?;
+    cursor.take_of_form(Sign::Semicolon)
+}
+
 /// `REG < NUMBER ;`
-#[tactic(auto, unfolding(crate::specs::StatementReader::bound_at, litmus_lex::specs::Front::take_number))]
+#[tactic(auto, using(crate::proofs::Joined::bound_joins), unfolding(litmus_lex::specs::Front::take_number))]
 fn read_bound(
     process: &mut Process<'_>,
     register: usize,
@@ -418,8 +454,7 @@ fn read_bound(
     ensures reads { Answers result (λ header. (header, state_of process.new))
         (reader.bound_at (place_of around.now) register (state_of process.old)) }
 {
-    take_counter_again(process, register)?;
-    process.cursor.take_of_form(Sign::Less)?;
+    take_counter_before(process, Sign::Less, register)?;
     let Token::Number(turns) = process.cursor.token() else {
         return Err(process.cursor.form_offence(Expected::Number));
     };
@@ -434,13 +469,12 @@ fn read_bound(
 }
 
 /// `REG ++ )`
-#[tactic(auto, unfolding(crate::specs::StatementReader::step_at))]
+#[tactic(auto, using(crate::proofs::Joined::step_joins))]
 fn read_step(process: &mut Process<'_>, register: usize) -> Result<(), Refusal>
     ensures moves { OnOk result (count_left process.new.cursor < count_left process.old.cursor) }
     ensures reads { Answers result (λ _. state_of process.new) (reader.step_at register (state_of process.old)) }
 {
-    take_counter_again(process, register)?;
-    process.cursor.take_of_form(Sign::Increment)?;
+    take_counter_before(process, Sign::Increment, register)?;
     process.cursor.take_of_form(Sign::CloseParen)
 }
 
@@ -458,17 +492,21 @@ fn take_counter(process: &mut Process<'_>, around: &Surroundings) -> Result<usiz
     process.take_changed_register(around)
 }
 
-/// The register of the loop once more.
-#[tactic(auto, unfolding(crate::specs::StatementReader::take_again))]
-fn take_counter_again(process: &mut Process<'_>, register: usize) -> Result<(), Refusal>
+/// The register of the loop once more, and the sign behind it.
+#[tactic(auto, unfolding(crate::specs::StatementReader::take_again, crate::specs::StatementReader::again_before))]
+fn take_counter_before(
+    process: &mut Process<'_>,
+    sign: Sign,
+    register: usize,
+) -> Result<(), Refusal>
     ensures moves { OnOk result (count_left process.new.cursor < count_left process.old.cursor) }
     ensures reads { Answers result (λ _. state_of process.new)
-        (reader.take_again register (state_of process.old)) }
+        (reader.again_before sign register (state_of process.old)) }
 {
     match process.register_name() {
         Some(name) if process.register_of(name) == Some(register) => {
             process.cursor.advance();
-            Ok(())
+            process.cursor.take_of_form(sign)
         }
         _ => Err(process.cursor.form_offence(Expected::Counter)),
     }
