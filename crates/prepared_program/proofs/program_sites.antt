@@ -1,3 +1,4 @@
 pub mod AddsLemmas
 pub mod TextLemmas
 pub mod ProgramLemmas
+pub mod ErrorLemmas

@@ -21,6 +21,7 @@ use Rattle.prepared_program.specs.program_layout.Lays.{Lays}
 use Rattle.prepared_program.specs.program_sites.Added.{Adds, first_ticket}
 use Rattle.prepared_program.specs.program_sites.Sites.{IsOfProgram}
 use Rattle.prepared_program.proofs.program_sites.AddsLemmas.{adds_both, below_after}
+use Rattle.prepared_program.proofs.program_sites.ErrorLemmas.{layout_fails, no_value}
 use Rattle.prepared_program.proofs.program_sites.ProgramLemmas.{from_program, have_accesses, of_program, task_at, to_program}
 use Rattle.prepared_program.proofs.program_sites.sites.sites_of.Goals as goal
 
@@ -97,3 +98,9 @@ returns-clause-sites c = record {
       let all : length c.as_slice-task-items.result.now ≡ length c.args.program.now.tasks = ap length c.as_slice-task-items.ensures in
       c.loop-number.invariant.added a (omega (arith, within, length-map c.args.program.now.tasks task_of, all, c.loop-number-test.false), of);
 }
+
+pub returns-in_err-layout : goal.returns-in_err-layout
+returns-in_err-layout c =
+    let tells = layout_fails (AreFit c.args.program.now.variables c.args.places.now) c.from_residual.result c.in_err-layout.field-0.0
+    c.from_residual.ensures.1 (rw c.as_slice.ensures at c.in_err-layout.ensures.bad_place) in
+    record { sites = no_value c.from_residual.result _ c.from_residual.ensures.0; bad_place = tells.bad_place; errors = tells.errors }
