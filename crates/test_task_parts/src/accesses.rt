@@ -1,6 +1,6 @@
 //! One access of each kind over a board, step by step.
 
-use crate::fault::Fault;
+use crate::fault::{Fault, written};
 use crate::notation::{Phrase, cut, kind_of, push_flag, push_step, push_two};
 use crate::script::{Asked, Made, begin_word, make_other, push_made};
 use access_run::AccessRun;
@@ -41,16 +41,30 @@ struct Scene {
 /// disabled or not.
 pub fn access(alloc: Global, start: &str, script: &str, silenced: bool) -> Result<String, Fault> {
     let (kind, operation) = cut(start, ' ')?;
-    let operation = match operation {
-        "-" => None,
-        operation => Some(Phrase::read(operation).operation()?),
-    };
+    let operation = operation_of(operation)?;
     let mut scene = begun(alloc, kind_of(kind)?, operation, silenced)?;
     let mut came = String::new(alloc);
-    for word in script.split(' ') {
-        goes_on(&mut came, &mut scene, word)?;
-    }
+    let went = goes_through(&mut came, &mut scene, script);
+    // By a call: where it goes out of scope, the proof follows the drop of all that is in it.
+    drop(scene);
+    went?;
     Ok(came)
+}
+
+/// What an access does to memory; `-` for nothing.
+fn operation_of(text: &str) -> Result<Option<Operation>, Fault> {
+    if text == "-" {
+        return Ok(None);
+    }
+    Ok(Some(Phrase::read(text).operation()?))
+}
+
+/// What comes of an access by a script.
+fn goes_through(came: &mut String, scene: &mut Scene, script: &str) -> Result<(), Fault> {
+    for word in script.split(' ') {
+        goes_on(came, scene, word)?;
+    }
+    Ok(())
 }
 
 /// Task 1 begins an access.
@@ -87,7 +101,7 @@ fn begun(
 /// What comes at a word of an access's script.
 fn goes_on(came: &mut String, scene: &mut Scene, word: &str) -> Result<(), Fault> {
     let phrase = match begin_word(came, word)? {
-        Asked::Step => return Ok(push_made(came, make_next(scene))?),
+        Asked::Step => return written(push_made(came, make_next(scene))),
         Asked::Question(phrase) => phrase,
     };
     let run = scene.run;
@@ -105,7 +119,7 @@ fn goes_on(came: &mut String, scene: &mut Scene, word: &str) -> Result<(), Fault
         }
         _ => return make_other(came, &mut scene.board, phrase),
     };
-    Ok(pushed?)
+    written(pushed)
 }
 
 /// Writes what came of the checks.

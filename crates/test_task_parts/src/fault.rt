@@ -16,6 +16,11 @@ pub enum Fault {
     OutOfMemory,
 }
 
+/// What came of writing something.
+pub fn written(pushed: Result<(), AllocError>) -> Result<(), Fault> {
+    Ok(pushed?)
+}
+
 impl From<AllocError> for Fault {
     fn from(_: AllocError) -> Fault {
         Fault::OutOfMemory

@@ -1,6 +1,6 @@
 //! What a task keeps over a few of its doings, and of its steps.
 
-use crate::fault::Fault;
+use crate::fault::{Fault, written};
 use crate::notation::{Phrase, cut, kind_of, number, push_flag, push_number};
 use crate::process::SITES;
 use crate::script::{Asked, begin_word};
@@ -50,7 +50,7 @@ fn goes_on(
         }
         _ => return goes_on_at(came, progress, phrase, phrase.index()?),
     };
-    Ok(pushed?)
+    written(pushed)
 }
 
 /// What comes at a word with an index.
@@ -65,7 +65,7 @@ fn goes_on_at(
         "has" => push_flag(came, progress.has_lock(index)),
         _ => return does(progress, phrase, index),
     };
-    Ok(pushed?)
+    written(pushed)
 }
 
 /// The task does something with a register, a site or a lock.

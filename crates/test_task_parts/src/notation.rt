@@ -40,14 +40,17 @@ impl<'t> Phrase<'t> {
 
     /// The operation that it spells.
     pub fn operation(self) -> Result<Operation, Fault> {
+        if self.name == "Load" {
+            return Ok(Operation::Load);
+        }
+        let value = self.number(0)?;
         match self.name {
-            "Load" => Ok(Operation::Load),
-            "Add" => Ok(Operation::Add(self.number(0)?)),
-            "Write" => Ok(Operation::Change(Change::Write(self.number(0)?))),
-            "Exchange" => Ok(Operation::Change(Change::Exchange(self.number(0)?))),
-            "AtomicAdd" => Ok(Operation::Change(Change::AtomicAdd(self.number(0)?))),
+            "Add" => Ok(Operation::Add(value)),
+            "Write" => Ok(Operation::Change(Change::Write(value))),
+            "Exchange" => Ok(Operation::Change(Change::Exchange(value))),
+            "AtomicAdd" => Ok(Operation::Change(Change::AtomicAdd(value))),
             "CompareExchange" => Ok(Operation::Change(Change::CompareExchange {
-                expected: self.number(0)?,
+                expected: value,
                 replacement: self.number(1)?,
             })),
             _ => Err(Fault::NoRow),
@@ -57,11 +60,14 @@ impl<'t> Phrase<'t> {
     /// The step of another task that it spells, with a `+` before it.
     pub fn step(self) -> Result<Step, Fault> {
         let index = self.index()?;
+        if self.name == "+LockStore" {
+            return Ok(Step::LockStore(index));
+        }
+        let second = self.number(1)?;
         match self.name {
-            "+TryConsume" => Ok(Step::TryConsume(index, self.number(1)?)),
-            "+CellExchange" => Ok(Step::CellExchange(index, self.number(1)?, self.number(2)?)),
-            "+LockTry" => Ok(Step::LockTry(index, short(self.number(1)?)?)),
-            "+LockStore" => Ok(Step::LockStore(index)),
+            "+TryConsume" => Ok(Step::TryConsume(index, second)),
+            "+CellExchange" => Ok(Step::CellExchange(index, second, self.number(2)?)),
+            "+LockTry" => Ok(Step::LockTry(index, short(second)?)),
             _ => Err(Fault::NoRow),
         }
     }

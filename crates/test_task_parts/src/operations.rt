@@ -1,6 +1,6 @@
 //! Operations on one cell of a board and tries of a lock, step by step, while another task may change it.
 
-use crate::fault::Fault;
+use crate::fault::{Fault, written};
 use crate::notation::{Phrase, cut, number, push_flag, push_optional, push_step, push_two, short};
 use crate::script::{Asked, Made, begin_word, make_other, push_made};
 use access_run::memory_operation::{LockWait, OperationRun};
@@ -43,10 +43,24 @@ fn operated(
 ) -> Result<String, Fault> {
     let mut board = board_of(alloc, cell)?;
     let mut came = String::new(alloc);
-    for word in script.split(' ') {
-        operation_goes_on(&mut came, &mut board, &mut run, word)?;
-    }
+    let went = operation_goes_through(&mut came, &mut board, &mut run, script);
+    // By a call: where it goes out of scope, the proof follows the drop of all that is in it.
+    drop(board);
+    went?;
     Ok(came)
+}
+
+/// What comes of an operation by a script.
+fn operation_goes_through(
+    came: &mut String,
+    board: &mut PlainBoard,
+    run: &mut OperationRun,
+    script: &str,
+) -> Result<(), Fault> {
+    for word in script.split(' ') {
+        operation_goes_on(came, board, run, word)?;
+    }
+    Ok(())
 }
 
 /// An operation on so many bytes of cell 0, from one on.
@@ -68,7 +82,7 @@ fn operation_goes_on(
     word: &str,
 ) -> Result<(), Fault> {
     let phrase = match begin_word(came, word)? {
-        Asked::Step => return Ok(push_made(came, make_next(board, run))?),
+        Asked::Step => return written(push_made(came, make_next(board, run))),
         Asked::Question(phrase) => phrase,
     };
     let pushed = match phrase.name {
@@ -78,7 +92,7 @@ fn operation_goes_on(
         "cell" => push_optional(came, board.cells().first().copied()),
         _ => return make_other(came, board, phrase),
     };
-    Ok(pushed?)
+    written(pushed)
 }
 
 /// Makes the step that the operation says.
@@ -105,10 +119,23 @@ pub fn lock(alloc: Global, start: &str, script: &str) -> Result<String, Fault> {
 fn tried(alloc: Global, mut wait: LockWait, script: &str) -> Result<String, Fault> {
     let mut board = board_of(alloc, 0)?;
     let mut came = String::new(alloc);
-    for word in script.split(' ') {
-        lock_goes_on(&mut came, &mut board, &mut wait, word)?;
-    }
+    let went = lock_goes_through(&mut came, &mut board, &mut wait, script);
+    drop(board);
+    went?;
     Ok(came)
+}
+
+/// What comes of the tries of a lock by a script.
+fn lock_goes_through(
+    came: &mut String,
+    board: &mut PlainBoard,
+    wait: &mut LockWait,
+    script: &str,
+) -> Result<(), Fault> {
+    for word in script.split(' ') {
+        lock_goes_on(came, board, wait, word)?;
+    }
+    Ok(())
 }
 
 /// What comes at a word of a lock's script.
@@ -119,7 +146,7 @@ fn lock_goes_on(
     word: &str,
 ) -> Result<(), Fault> {
     let phrase = match begin_word(came, word)? {
-        Asked::Step => return Ok(push_made(came, try_next(board, wait))?),
+        Asked::Step => return written(push_made(came, try_next(board, wait))),
         Asked::Question(phrase) => phrase,
     };
     let pushed = match phrase.name {
@@ -128,7 +155,7 @@ fn lock_goes_on(
         "taken" => push_flag(came, wait.is_taken()),
         _ => return make_other(came, board, phrase),
     };
-    Ok(pushed?)
+    written(pushed)
 }
 
 /// Makes the try that the task says.

@@ -1,7 +1,7 @@
 //! Which texts are the same, whether two tasks stand at one place of theirs, and whether the same follows on two
 //! accesses.
 
-use crate::fault::Fault;
+use crate::fault::{Fault, written};
 use crate::notation::{Phrase, cut, push_flag};
 use crate::plans::after_first;
 use crate::process::{body_of, program_of, walk_of};
@@ -119,7 +119,7 @@ fn goes_on(
         "follows" => follows_alike(alloc, one, other)?,
         _ => return Err(Fault::NoRow),
     };
-    Ok(push_flag(came, is_same)?)
+    written(push_flag(came, is_same))
 }
 
 /// Two tasks stand at one place, each behind so many steps.

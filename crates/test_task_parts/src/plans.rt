@@ -1,6 +1,6 @@
 //! The access that a statement makes, and the locks among variables.
 
-use crate::fault::Fault;
+use crate::fault::{Fault, written};
 use crate::notation::{cut, number, push_flag, push_number, push_two};
 use crate::process::{body_of, layout_of, program_of, walk_of};
 use crate::script::{Asked, begin_word};
@@ -155,5 +155,5 @@ fn goes_on(came: &mut String, variables: &[Variable], word: &str) -> Result<(), 
         "number" => push_number(came, lock_number(variables, variable) as u64),
         _ => return Err(Fault::NoRow),
     };
-    Ok(pushed?)
+    written(pushed)
 }

@@ -20,23 +20,22 @@ pub enum Asked<'t> {
 
 /// What a word asks, and writes that behind what came so far; of a step, what comes of it says what it is.
 pub fn begin_word<'t>(came: &mut String, word: &'t str) -> Result<Asked<'t>, AllocError> {
-    if !came.is_empty() {
-        came.push(' ')?;
-    }
+    push_blank(came)?;
     if matches!(word.as_bytes().first().copied(), Some(b'A'..=b'Z')) {
         return Ok(Asked::Step);
     }
-    match word.split_once('=') {
-        Some((question, _)) => {
-            came.push_str(question)?;
-            came.push('=')?;
-            Ok(Asked::Question(Phrase::read(question)))
-        }
-        None => {
-            came.push_str(word)?;
-            Ok(Asked::Question(Phrase::read(word)))
-        }
+    let question = word.split_inclusive('=').next().unwrap_or("");
+    came.push_str(question)?;
+    let question = question.strip_suffix('=').unwrap_or(question);
+    Ok(Asked::Question(Phrase::read(question)))
+}
+
+/// Writes a blank behind what came so far, if anything came.
+fn push_blank(came: &mut String) -> Result<(), AllocError> {
+    if came.is_empty() {
+        return Ok(());
     }
+    came.push(' ')
 }
 
 /// Writes a step that was made, with its answer, or `none`.
