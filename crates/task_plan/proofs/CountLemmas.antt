@@ -1,7 +1,8 @@
 -- Counts that stay at a greatest number.
 use native.Mathlib.Omega.{arith}
-use Rattle.std.proofs.Common.{◌≡◌, ◌+◌, ◌++◌, ◌≤◌, ℕ, Bool, true, false, if◌then◌else◌, [], ◌∷◌, length, length-append, max, min, refl}
+use Rattle.std.proofs.Common.{◌≡◌, ◌∙◌, ◌+◌, ◌++◌, ◌≤◌, ◌<◌, ℕ, Bool, true, false, if◌then◌else◌, [], ◌∷◌, List, add-one, ap, drop, drop-cons, get_or, length, length-append, max, min, refl, suc, sym}
 use Rattle.litmus_syntax.specs.Sites.{accesses_of, has_access, itself, sites_of}
+use Rattle.litmus_syntax.specs.declared.statement.Statement.{Statement as Coded}
 use Rattle.litmus_syntax.specs.Tree.{Block, Expression, Statement}
 use Rattle.litmus_syntax.specs.Tree as tree
 
@@ -38,3 +39,23 @@ one_deeper body d r m is result = omega (arith, is, result)
 pub two_deeper : (body other b o both r m : ℕ) → b ≡ min body m → o ≡ min other m → both ≡ max b o → r ≡ min (both + 1) m
     → r ≡ min (1 + max body other) m
 two_deeper body other b o both r m first second deeper result = omega (arith, first, second, deeper, result)
+
+-- one statement more is counted
+pub counted_more : (count own found new rest left all m : ℕ) → count ≤ m → found ≡ min own m → new ≡ min (found + count) m → left ≡ own + rest
+    → min (count + left) m ≡ min all m → (new ≤ m) × (min (new + rest) m ≡ min all m)
+counted_more count own found new rest left all m fits is result both h =
+    (omega (arith, result), omega (arith, fits, is, result, both, h))
+
+-- what a statement and those behind it have in each other is that of all
+pub deep_more : (depth own found new rest left all m : ℕ) → depth ≤ m → found ≡ min own m → new ≡ max depth found → left ≡ max own rest
+    → min (max depth left) m ≡ min all m → (new ≤ m) × (min (max new rest) m ≡ min all m)
+deep_more depth own found new rest left all m fits is result both h =
+    (omega (arith, fits, is, result), omega (arith, fits, is, result, both, h))
+
+pub deep_all : (depth none all m : ℕ) → depth ≤ m → none ≡ 0 → min (max depth none) m ≡ min all m → depth ≡ min all m
+deep_all depth none all m fits is h = omega (arith, fits, is, h)
+
+-- the statement of the turn and those behind it are what was left
+pub left_now : (block : List Coded) (i : ℕ) (s : Coded) → i < length block → s ≡ get_or block i s
+    → drop i block ≡ s ∷ drop (i + 1) block
+left_now block i s within is = rw add-one (drop-cons block i s within ∙ ap (λ first. first ∷ drop (suc i) block) (sym is))

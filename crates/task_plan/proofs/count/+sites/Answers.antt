@@ -1,11 +1,12 @@
 -- A statement with a block has its own access besides those of the block.
-use Rattle.std.proofs.Common.{◌≡◌, ◌∙◌, Bool, [], ap, drop, if◌then◌else◌, length}
+use Rattle.std.proofs.Common.{◌≡◌, ◌∙◌, ◌+◌, Bool, List, [], ap, drop, if◌then◌else◌, length, length-append}
 use Rattle.std.proofs.lemmas.List.{drop_all}
-use Rattle.litmus_syntax.specs.Sites.{has_access, sites_of}
+use Rattle.litmus_syntax.specs.Sites.{accesses_of, has_access, sites_of}
 use Rattle.litmus_syntax.specs.Tree as tree
 use Rattle.litmus_syntax.specs.Views.{block_of, expression_of, statement_of}
 use Rattle.litmus_syntax.proofs.TreeLemmas.{statement_of-If, statement_of-IfElse, statement_of-For}
-use Rattle.task_plan.proofs.CountLemmas.{counted_all, else_counts, if_counts, one_capped, two_capped}
+use Rattle.litmus_syntax.specs.declared.statement.Statement.{Statement}
+use Rattle.task_plan.proofs.CountLemmas.{counted_all, counted_more, else_counts, if_counts, left_now, one_capped, two_capped}
 use Rattle.task_plan.proofs.count.+sites.Goals as goal
 
 pub sites_in-returns : goal.sites_in-returns
@@ -38,3 +39,13 @@ accesses_in-returns-in-IfElse t c =
     (two_capped _ _ _ c.sites_in-in-IfElse.result c.sites_in-in-IfElse-2.result c.saturating_add-in-IfElse.result _ _
     (rw c.as_slice-in-IfElse.ensures.value at c.sites_in-in-IfElse.ensures) (rw c.as_slice-in-IfElse-2.ensures.value at c.sites_in-in-IfElse-2.ensures)
     c.saturating_add-in-IfElse.ensures (rw own at c.saturating_add-in-IfElse-2.ensures))
+
+pub sites_in-loop-statement-preserved : goal.sites_in-loop-statement-preserved
+sites_in-loop-statement-preserved t c =
+    let left = left_now c.args.block.now c.loop-statement.statement-index c.statement-item.result c.loop-statement-test.true c.statement-item.is in
+    let own = accesses_of (statement_of c.statement-item.result) in
+    let rest = sites_of (block_of (drop (c.loop-statement.statement-index + 1) c.args.block.now)) in
+    counted_more c.loop-statement.count (length own) c.accesses_in.result c.saturating_add-count.result (length rest) _ _ _
+    c.loop-statement.invariant.0 c.accesses_in.ensures c.saturating_add-count.ensures
+    (ap (λ (these : List Statement). length (sites_of (block_of these))) left ∙ length-append own rest)
+    c.loop-statement.invariant.1

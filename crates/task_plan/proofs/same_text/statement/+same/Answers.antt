@@ -5,7 +5,9 @@ use Rattle.litmus_syntax.specs.Tree as tree
 use Rattle.litmus_syntax.specs.Views.{block_of, expression_of, statement_of}
 use Rattle.litmus_syntax.specs.declared.expression.Expression.{Expression}
 use Rattle.litmus_syntax.specs.declared.statement.Statement.{Statement}
-use Rattle.litmus_syntax.specs.declared.statement.Statement.TheVariants.{For, If, IfElse}
+use Rattle.litmus_syntax.specs.declared.statement.Statement.TheVariants as statements
+use Rattle.litmus_syntax.specs.declared.statement.Statement.TheVariants.{For, If, IfElse, outs-For', outs-If', outs-IfElse', rolls-For, rolls-If, rolls-IfElse}
+use Rattle.litmus_syntax.specs.declared.statement.Statement.TheViews.{roll-Statement, roll-out-Statement}
 use Rattle.task_plan.proofs.same_text.statement.+same.Goals as goal
 use Rattle.task_plan.proofs.same_text.statement.+same.Goals.{is_if_else-then-is_same_expression, is_if_else-else-is_same_expression}
 use Rattle.task_plan.proofs.same_text.statement.+same.Goals.{is_loop-then-counter-register, is_loop-else-counter-register}
@@ -125,3 +127,51 @@ pub is_same_statement-returns-in-For : goal.is_same_statement-returns-in-For
 is_same_statement-returns-in-For t c =
     of_parts _ _ _ _ _ (ap statement_of c.in-For.is ∙ statement_of-For c.in-For.register c.in-For.turns c.in-For.body)
     (ap (λ these. tree.for_turns c.in-For.register c.in-For.turns (block_of these)) (sym c.as_slice-in-For.ensures.value)) c.is_loop.ensures
+
+-- a statement that is of no such form is not one
+no_if : (s : Statement) (condition : tree.Expression) (body : tree.Block) → ((asked : Expression) (inner : Vec Statement Global) → s ≡ If asked inner → ⊥)
+    → statement_of s ≡ tree.if_block condition body → ⊥
+no_if (statements.Load l) condition body other e = cc
+no_if (statements.Assign d a) condition body other e = cc
+no_if (statements.Call c) condition body other e = cc
+no_if (statements.If' c n b) condition body other e = other c _ (sym (roll-out-Statement (statements.If' c n b)) ∙ ap roll-Statement (outs-If' c n b) ∙ rolls-If c _)
+no_if (statements.IfElse' c n b m o) condition body other e = cc
+no_if (statements.For' r t n b) condition body other e = cc
+
+no_if_else : (s : Statement) (condition : tree.Expression) (body otherwise : tree.Block)
+    → ((asked : Expression) (inner last : Vec Statement Global) → s ≡ IfElse asked inner last → ⊥)
+    → statement_of s ≡ tree.if_else condition body otherwise → ⊥
+no_if_else (statements.Load l) condition body otherwise other e = cc
+no_if_else (statements.Assign d a) condition body otherwise other e = cc
+no_if_else (statements.Call c) condition body otherwise other e = cc
+no_if_else (statements.If' c n b) condition body otherwise other e = cc
+no_if_else (statements.IfElse' c n b m o) condition body otherwise other e = other c _ _ (sym (roll-out-Statement (statements.IfElse' c n b m o)) ∙ ap roll-Statement (outs-IfElse' c n b m o) ∙ rolls-IfElse c _ _)
+no_if_else (statements.For' r t n b) condition body otherwise other e = cc
+
+no_loop : (s : Statement) (register turns : ℕ) (body : tree.Block) → ((counter times : ℕ) (inner : Vec Statement Global) → s ≡ For counter times inner → ⊥)
+    → statement_of s ≡ tree.for_turns register turns body → ⊥
+no_loop (statements.Load l) register turns body other e = cc
+no_loop (statements.Assign d a) register turns body other e = cc
+no_loop (statements.Call c) register turns body other e = cc
+no_loop (statements.If' c n b) register turns body other e = cc
+no_loop (statements.IfElse' c n b m o) register turns body other e = cc
+no_loop (statements.For' r t n b) register turns body other e = other r t _ (sym (roll-out-Statement (statements.For' r t n b)) ∙ ap roll-Statement (outs-For' r t n b) ∙ rolls-For r t _)
+
+pub is_if-returns-in_default : goal.is_if-returns-in_default
+is_if-returns-in_default t c = (
+  λ yes. search,
+  λ is. absurd (no_if c.args.statement.now (expression_of c.args.condition.now) (block_of c.args.body.now) c.in_default.not-If is),
+)
+
+pub is_if_else-returns-in_default : goal.is_if_else-returns-in_default
+is_if_else-returns-in_default t c = (
+  λ yes. search,
+  λ is. absurd (no_if_else c.args.statement.now (expression_of c.args.condition.now) (block_of c.args.body.now)
+      (block_of c.args.otherwise.now) c.in_default.not-IfElse is),
+)
+
+pub is_loop-returns-in_default : goal.is_loop-returns-in_default
+is_loop-returns-in_default t c = (
+  λ yes. search,
+  λ is. absurd (no_loop c.args.statement.now c.args.register c.args.turns (block_of c.args.body.now) c.in_default.not-For is),
+)
