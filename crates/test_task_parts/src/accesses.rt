@@ -2,7 +2,7 @@
 
 use crate::fault::{Fault, written};
 use crate::notation::{Phrase, cut, kind_of, push_flag, push_step, push_two};
-use crate::script::{Asked, Made, begin_word, make_other, push_made};
+use crate::script::{Asked, Made, Scripted, begin_word, came_of, make_other, push_made};
 use access_run::AccessRun;
 use access_run::memory_operation::Operation;
 use access_types::{Access, Kind, Sites};
@@ -43,12 +43,10 @@ pub fn access(alloc: Global, start: &str, script: &str, silenced: bool) -> Resul
     let (kind, operation) = cut(start, ' ')?;
     let operation = operation_of(operation)?;
     let mut scene = begun(alloc, kind_of(kind)?, operation, silenced)?;
-    let mut came = String::new(alloc);
-    let went = goes_through(&mut came, &mut scene, script);
+    let came = came_of(alloc, script, &mut scene);
     // By a call: where it goes out of scope, the proof follows the drop of all that is in it.
     drop(scene);
-    went?;
-    Ok(came)
+    came
 }
 
 /// What an access does to memory; `-` for nothing.
@@ -59,12 +57,10 @@ fn operation_of(text: &str) -> Result<Option<Operation>, Fault> {
     Ok(Some(Phrase::read(text).operation()?))
 }
 
-/// What comes of an access by a script.
-fn goes_through(came: &mut String, scene: &mut Scene, script: &str) -> Result<(), Fault> {
-    for word in script.split(' ') {
-        goes_on(came, scene, word)?;
+impl Scripted for Scene {
+    fn goes_on(&mut self, came: &mut String, word: &str) -> Result<(), Fault> {
+        goes_on(came, self, word)
     }
-    Ok(())
 }
 
 /// Task 1 begins an access.

@@ -3,7 +3,7 @@
 use crate::fault::{Fault, written};
 use crate::notation::{Phrase, cut, kind_of, number, push_flag, push_number};
 use crate::process::SITES;
-use crate::script::{Asked, begin_word};
+use crate::script::{Asked, Scripted, begin_word, came_of};
 use access_types::Access;
 use setup_access::Begun;
 use slot_table::{Answer, Step};
@@ -22,12 +22,25 @@ pub fn progress(alloc: Global, start: &str, script: &str) -> Result<String, Faul
 
 /// What is kept from a first one on.
 fn kept_from(alloc: Global, first: &Progress, script: &str) -> Result<String, Fault> {
-    let mut progress = first.copy(alloc)?;
-    let mut came = String::new(alloc);
-    for word in script.split(' ') {
-        goes_on(&mut came, &mut progress, first, word)?;
+    let progress = first.copy(alloc)?;
+    let mut kept = Kept { progress, first };
+    let came = came_of(alloc, script, &mut kept);
+    // By a call: where it goes out of scope, the proof follows the drop of all that is in it.
+    drop(kept);
+    came
+}
+
+/// What is kept, and what was kept first.
+#[derive(Drop)]
+struct Kept<'p> {
+    progress: Progress,
+    first: &'p Progress,
+}
+
+impl Scripted for Kept<'_> {
+    fn goes_on(&mut self, came: &mut String, word: &str) -> Result<(), Fault> {
+        goes_on(came, &mut self.progress, self.first, word)
     }
-    Ok(came)
 }
 
 /// What comes at a word: what is kept, whether that is what was kept first, or something that the task does.

@@ -2,7 +2,7 @@
 
 use crate::fault::{Fault, written};
 use crate::notation::{Phrase, cut, number, push_flag, push_optional, push_step, push_two, short};
-use crate::script::{Asked, Made, begin_word, make_other, push_made};
+use crate::script::{Asked, Made, Scripted, begin_word, came_of, make_other, push_made};
 use access_run::memory_operation::{LockWait, OperationRun};
 use access_types::{Access, Kind, Operation as Touch};
 use setup_access::source::Source;
@@ -35,32 +35,28 @@ pub fn operation(alloc: Global, start: &str, script: &str) -> Result<String, Fau
 }
 
 /// What comes of an operation on a cell.
-fn operated(
-    alloc: Global,
-    cell: u64,
-    mut run: OperationRun,
-    script: &str,
-) -> Result<String, Fault> {
-    let mut board = board_of(alloc, cell)?;
-    let mut came = String::new(alloc);
-    let went = operation_goes_through(&mut came, &mut board, &mut run, script);
+fn operated(alloc: Global, cell: u64, run: OperationRun, script: &str) -> Result<String, Fault> {
+    let mut on_cell = OnCell {
+        board: board_of(alloc, cell)?,
+        run,
+    };
+    let came = came_of(alloc, script, &mut on_cell);
     // By a call: where it goes out of scope, the proof follows the drop of all that is in it.
-    drop(board);
-    went?;
-    Ok(came)
+    drop(on_cell);
+    came
 }
 
-/// What comes of an operation by a script.
-fn operation_goes_through(
-    came: &mut String,
-    board: &mut PlainBoard,
-    run: &mut OperationRun,
-    script: &str,
-) -> Result<(), Fault> {
-    for word in script.split(' ') {
-        operation_goes_on(came, board, run, word)?;
+/// An operation that goes on over a board.
+#[derive(Drop)]
+struct OnCell {
+    board: PlainBoard,
+    run: OperationRun,
+}
+
+impl Scripted for OnCell {
+    fn goes_on(&mut self, came: &mut String, word: &str) -> Result<(), Fault> {
+        operation_goes_on(came, &mut self.board, &mut self.run, word)
     }
-    Ok(())
 }
 
 /// An operation on so many bytes of cell 0, from one on.
@@ -116,26 +112,27 @@ pub fn lock(alloc: Global, start: &str, script: &str) -> Result<String, Fault> {
 }
 
 /// What comes of the tries of a lock.
-fn tried(alloc: Global, mut wait: LockWait, script: &str) -> Result<String, Fault> {
-    let mut board = board_of(alloc, 0)?;
-    let mut came = String::new(alloc);
-    let went = lock_goes_through(&mut came, &mut board, &mut wait, script);
-    drop(board);
-    went?;
-    Ok(came)
+fn tried(alloc: Global, wait: LockWait, script: &str) -> Result<String, Fault> {
+    let mut waiting = Waiting {
+        board: board_of(alloc, 0)?,
+        wait,
+    };
+    let came = came_of(alloc, script, &mut waiting);
+    drop(waiting);
+    came
 }
 
-/// What comes of the tries of a lock by a script.
-fn lock_goes_through(
-    came: &mut String,
-    board: &mut PlainBoard,
-    wait: &mut LockWait,
-    script: &str,
-) -> Result<(), Fault> {
-    for word in script.split(' ') {
-        lock_goes_on(came, board, wait, word)?;
+/// A task that tries a lock of a board.
+#[derive(Drop)]
+struct Waiting {
+    board: PlainBoard,
+    wait: LockWait,
+}
+
+impl Scripted for Waiting {
+    fn goes_on(&mut self, came: &mut String, word: &str) -> Result<(), Fault> {
+        lock_goes_on(came, &mut self.board, &mut self.wait, word)
     }
-    Ok(())
 }
 
 /// What comes at a word of a lock's script.

@@ -4,7 +4,7 @@
 use crate::fault::Fault;
 use crate::notation::{Phrase, push_answer, push_step};
 use slot_table::{Answer, Board, PlainBoard, Step};
-use std::alloc::AllocError;
+use std::alloc::{AllocError, Global};
 
 /// A step, and its answer.
 pub type Made = (Step, Answer);
@@ -16,6 +16,21 @@ pub enum Asked<'t> {
     Step,
     /// A step of another task, or what the part says of itself.
     Question(Phrase<'t>),
+}
+
+/// A part of a task that goes on word by word.
+pub trait Scripted {
+    /// Writes what comes at a word of the script.
+    fn goes_on(&mut self, came: &mut String, word: &str) -> Result<(), Fault>;
+}
+
+/// What comes of a part by its script.
+pub fn came_of<S: Scripted>(alloc: Global, script: &str, part: &mut S) -> Result<String, Fault> {
+    let mut came = String::new(alloc);
+    for word in script.split(' ') {
+        part.goes_on(&mut came, word)?;
+    }
+    Ok(came)
 }
 
 /// What a word asks, and writes that behind what came so far; of a step, what comes of it says what it is.

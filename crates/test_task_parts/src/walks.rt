@@ -1,9 +1,9 @@
 //! What is due in a text with loops, conditions and scoped assertions in each other.
 
-use crate::fault::Fault;
+use crate::fault::{Fault, written};
 use crate::notation::{cut, push_number};
 use crate::process::{body_of, program_of, walk_of};
-use crate::script::{Asked, begin_word};
+use crate::script::{Asked, Scripted, begin_word, came_of};
 use litmus_syntax::{Assignment, Expression, Fetch, Load, Loading, Statement};
 use std::alloc::{AllocError, Global};
 use std::str::Bytes;
@@ -18,22 +18,40 @@ pub fn walk(alloc: Global, start: &str, script: &str) -> Result<String, Fault> {
 }
 
 /// What comes of the walk of a body.
-fn walked(
+fn walked<'p>(
     alloc: Global,
-    body: &[Statement],
-    conditions: &str,
+    body: &'p [Statement],
+    conditions: &'p str,
     script: &str,
 ) -> Result<String, Fault> {
-    let mut walk = walk_of(alloc, body)?;
-    let mut conditions = conditions.bytes();
-    let mut came = String::new(alloc);
-    for word in script.split(' ') {
-        match begin_word(&mut came, word)? {
-            Asked::Question(phrase) => push_number(&mut came, measure(body, phrase.name)?)?,
-            Asked::Step => goes_on(&mut came, &mut walk, &mut conditions)?,
+    let mut walking = Walking {
+        body,
+        walk: walk_of(alloc, body)?,
+        conditions: conditions.bytes(),
+    };
+    let came = came_of(alloc, script, &mut walking);
+    // By a call: where it goes out of scope, the proof follows the drop of all that is in it.
+    drop(walking);
+    came
+}
+
+/// A walk through a body, with what its conditions say that are still to come.
+#[derive(Drop)]
+struct Walking<'p> {
+    body: &'p [Statement],
+    walk: Walk<'p>,
+    conditions: Bytes<'p>,
+}
+
+impl Scripted for Walking<'_> {
+    fn goes_on(&mut self, came: &mut String, word: &str) -> Result<(), Fault> {
+        match begin_word(came, word)? {
+            Asked::Question(phrase) => {
+                written(push_number(came, measure(self.body, phrase.name)?))
+            }
+            Asked::Step => written(goes_on(came, &mut self.walk, &mut self.conditions)),
         }
     }
-    Ok(came)
 }
 
 /// What is due next. Where that is a condition, it takes one of those that are left.
