@@ -12,8 +12,8 @@ abbrev mutual
   statement_work (tree.load_only l) = 1
   statement_work (tree.assign data_race a) = 1
   statement_work (tree.call c) = 1
-  statement_work (tree.if_block e body) = suc (block_work body)
-  statement_work (tree.if_else e body otherwise) = suc (block_work body + block_work otherwise)
+  statement_work (tree.if_block e body) = suc (suc (block_work body))
+  statement_work (tree.if_else e body otherwise) = suc (suc (block_work body + block_work otherwise))
   statement_work (tree.for_turns r turns body) = suc (turns_work turns (block_work body))
 
   pub block_work : Block → ℕ

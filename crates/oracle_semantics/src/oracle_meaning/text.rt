@@ -5,7 +5,8 @@ ghost use Rattle.litmus_semantics.specs.Meaning as spec;
 ghost use Rattle.litmus_semantics.specs.Meaning.{Means, MeansBlock, Turns};
 ghost use Rattle.litmus_semantics.specs.Task.{Progress, Setting};
 ghost use Rattle.litmus_syntax.specs.Sites.{accesses_of, sites_of};
-ghost use Rattle.litmus_syntax.specs.Views.{block_of, expression_of, statement_of};
+ghost use Rattle.litmus_syntax.specs.Tree as tree;
+ghost use Rattle.litmus_syntax.specs.Views.{block_of, expression_of, load_of, statement_of};
 ghost use Rattle.oracle_semantics.specs.oracle_meaning.Walks.{IsOf, Takes, stands, values_read};
 
 use crate::oracle_meaning::access::{access_now, bytes_in};
@@ -15,7 +16,7 @@ use crate::oracle_meaning::load::{evaluates, load};
 use crate::oracle_meaning::store::assigns_in;
 use crate::oracle_meaning::walk::{Given, NoMeaning, Walk};
 use access_types::Happening;
-use litmus_syntax::{Expression, Statement};
+use litmus_syntax::{Expression, Load, Statement};
 use std::alloc::Global;
 
 /// The first site after the condition of an `if`.
@@ -29,6 +30,13 @@ fn after_condition(site: usize, condition: &Expression) -> Result<usize, NoMeani
     }
 }
 
+/// The first site after the body of an `if`.
+fn after_body(site: usize, condition: &Expression, body: &[Statement]) -> Result<usize, NoMeaning>
+    ensures { IfOk result (λ next. next ≡ spec.after_condition site (expression_of condition.now) + length (sites_of (block_of body.now))) }
+{
+    add(after_condition(site, condition)?, sites_in(body)?)
+}
+
 /// The turn after one.
 fn next_turn(turn: u64) -> Result<u64, NoMeaning>
     ensures { IfOk result (λ next. next ≡ turn + 1) }
@@ -37,6 +45,62 @@ fn next_turn(turn: u64) -> Result<u64, NoMeaning>
         Some(next) => Ok(next),
         None => Err(NoMeaning::NoAccess),
     }
+}
+
+/// After a load of a site whose value nothing takes.
+fn loads(given: &Given<'_>, site: usize, fetched: &Load, before: Walk) -> Result<Walk, NoMeaning>
+    ensures means { (s : Setting) → IsOf s given.now
+        → IfOk result (λ after. Means s site (tree.load_only (load_of fetched.now)) (stands before) (stands after)) }
+    ensures takes { IfOk result (Takes before) }
+{
+    let (after, _) = load(given, site, fetched, before)?;
+    Ok(after)
+}
+
+/// After an `if` of a site.
+#[cycle(text)]
+fn if_holds(
+    given: &Given<'_>,
+    site: usize,
+    condition: &Expression,
+    body: &[Statement],
+    before: Walk,
+) -> Result<Walk, NoMeaning>
+    ensures means { (s : Setting) → IsOf s given.now → IfOk result (λ after.
+        Means s site (tree.if_block (expression_of condition.now) (block_of body.now)) (stands before) (stands after)) }
+    ensures takes { IfOk result (Takes before) }
+{
+    let (between, value) = evaluates(given, site, condition, before)?;
+    if value == 0 {
+        return Ok(between);
+    }
+    block(given, after_condition(site, condition)?, body, between)
+}
+
+/// After an `if` of a site with an `else`.
+#[cycle(text)]
+fn if_else(
+    given: &Given<'_>,
+    site: usize,
+    condition: &Expression,
+    body: &[Statement],
+    otherwise: &[Statement],
+    before: Walk,
+) -> Result<Walk, NoMeaning>
+    ensures means { (s : Setting) → IsOf s given.now → IfOk result (λ after.
+        Means s site (tree.if_else (expression_of condition.now) (block_of body.now) (block_of otherwise.now)) (stands before) (stands after)) }
+    ensures takes { IfOk result (Takes before) }
+{
+    let (between, value) = evaluates(given, site, condition, before)?;
+    if value == 0 {
+        return block(
+            given,
+            after_body(site, condition, body)?,
+            otherwise,
+            between,
+        );
+    }
+    block(given, after_condition(site, condition)?, body, between)
 }
 
 /// After a statement whose first site is this one.
@@ -52,40 +116,27 @@ fn statement(
     ensures takes { IfOk result (Takes before) }
 {
     match statement {
-        Statement::Load(fetched) => {
-            let (after, _) = load(given, site, fetched, before)?;
-            Ok(after)
-        }
+        Statement::Load(fetched) => loads(given, site, fetched, before),
         Statement::Assign {
             data_race,
             assignment,
         } => assigns_in(given, site, *data_race, assignment, before),
         Statement::Call(call) => calls(given, site, *call, before),
         Statement::If { condition, body } => {
-            let (between, value) = evaluates(given, site, condition, before)?;
-            if value == 0 {
-                return Ok(between);
-            }
-            block(
-                given,
-                after_condition(site, condition)?,
-                body.as_slice(),
-                between,
-            )
+            if_holds(given, site, condition, body.as_slice(), before)
         }
         Statement::IfElse {
             condition,
             body,
             otherwise,
-        } => {
-            let (between, value) = evaluates(given, site, condition, before)?;
-            let inside = after_condition(site, condition)?;
-            if value == 0 {
-                let other = add(inside, sites_in(body.as_slice())?)?;
-                return block(given, other, otherwise.as_slice(), between);
-            }
-            block(given, inside, body.as_slice(), between)
-        }
+        } => if_else(
+            given,
+            site,
+            condition,
+            body.as_slice(),
+            otherwise.as_slice(),
+            before,
+        ),
         Statement::For {
             register,
             turns: count,

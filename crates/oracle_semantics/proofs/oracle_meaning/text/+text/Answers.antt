@@ -4,14 +4,13 @@ use Rattle.std.proofs.lemmas.Result.{IfOk-weaker}
 use Rattle.access_types.specs.Access.{Access}
 use Rattle.access_types.specs.declared.history.Happening.TheVariants.{Begin, End}
 use Rattle.litmus_semantics.specs.Calls.{Scoped, scoped_access, scoped_assertion}
-use Rattle.litmus_semantics.specs.Meaning.{MeansBlock, after_condition}
+use Rattle.litmus_semantics.specs.Meaning.{MeansBlock}
 use Rattle.litmus_semantics.specs.Task.{Progress, doing}
 use Rattle.litmus_syntax.proofs.TreeLemmas.{statement_of-If, statement_of-IfElse, statement_of-For}
-use Rattle.litmus_syntax.specs.Sites.{accesses_of, sites_of}
+use Rattle.litmus_syntax.specs.Sites.{accesses_of}
 use Rattle.litmus_syntax.specs.Tree as tree
 use Rattle.litmus_syntax.specs.Views.{block_of, expression_of, statement_of}
 use Rattle.litmus_syntax.specs.declared.statement.Statement.{Statement}
-use Rattle.oracle_semantics.proofs.oracle_meaning.CountLemmas.{two_sums}
 use Rattle.oracle_semantics.proofs.oracle_meaning.TextLemmas.{plain_first, scoped_first, turns_more}
 use Rattle.oracle_semantics.proofs.oracle_meaning.Work.{block_work, statement_work, turns_work}
 use Rattle.oracle_semantics.specs.oracle_meaning.Walks.{stands}
@@ -20,34 +19,25 @@ use Rattle.oracle_semantics.proofs.oracle_meaning.text.+text.Goals as goal
 abbrev work_in : List Statement → ℕ
 work_in statements = block_work (block_of statements)
 
-pub statement-block-requires : goal.statement-block-requires
-statement-block-requires t c =
+pub statement-if_holds-requires : goal.statement-if_holds-requires
+statement-if_holds-requires t c =
     let is : statement_of c.args.statement.now ≡ tree.if_block (expression_of c.in-If.condition) (block_of c.in-If.body.items)
     = ap statement_of c.in-If.is ∙ statement_of-If c.in-If.condition c.in-If.body in
     let whole : statement_work (statement_of c.args.statement.now) ≡ t = c.decreases in
-    let work : statement_work (statement_of c.args.statement.now) ≡ suc (work_in c.in-If.body.items) = ap statement_work is in
+    let work : statement_work (statement_of c.args.statement.now) ≡ suc (suc (work_in c.in-If.body.items)) = ap statement_work is in
     let inside : work_in c.as_slice.result.now ≡ work_in c.in-If.body.items = ap work_in c.as_slice.ensures.value in
-    let less : work_in c.as_slice.result.now < t = omega (arith, whole, work, inside) in
+    let less : suc (work_in c.as_slice.result.now) < t = omega (arith, whole, work, inside) in
     (less, tt)
 
-pub statement-block-requires-then-value-eq0-2 : goal.statement-block-requires-then-value-eq0-2
-statement-block-requires-then-value-eq0-2 t c =
+pub statement-if_else-requires : goal.statement-if_else-requires
+statement-if_else-requires t c =
     let is : statement_of c.args.statement.now ≡ tree.if_else (expression_of c.in-IfElse.condition) (block_of c.in-IfElse.body.items) (block_of c.in-IfElse.otherwise.items)
     = ap statement_of c.in-IfElse.is ∙ statement_of-IfElse c.in-IfElse.condition c.in-IfElse.body c.in-IfElse.otherwise in
     let whole : statement_work (statement_of c.args.statement.now) ≡ t = c.decreases in
-    let work : statement_work (statement_of c.args.statement.now) ≡ suc (work_in c.in-IfElse.body.items + work_in c.in-IfElse.otherwise.items) = ap statement_work is in
-    let inside : work_in c.as_slice-then-value-eq0-2-2.result.now ≡ work_in c.in-IfElse.otherwise.items = ap work_in c.as_slice-then-value-eq0-2-2.ensures.value in
-    let less : work_in c.as_slice-then-value-eq0-2-2.result.now < t = omega (arith, whole, work, inside) in
-    (less, tt)
-
-pub statement-block-requires-in-IfElse : goal.statement-block-requires-in-IfElse
-statement-block-requires-in-IfElse t c =
-    let is : statement_of c.args.statement.now ≡ tree.if_else (expression_of c.in-IfElse.condition) (block_of c.in-IfElse.body.items) (block_of c.in-IfElse.otherwise.items)
-    = ap statement_of c.in-IfElse.is ∙ statement_of-IfElse c.in-IfElse.condition c.in-IfElse.body c.in-IfElse.otherwise in
-    let whole : statement_work (statement_of c.args.statement.now) ≡ t = c.decreases in
-    let work : statement_work (statement_of c.args.statement.now) ≡ suc (work_in c.in-IfElse.body.items + work_in c.in-IfElse.otherwise.items) = ap statement_work is in
-    let inside : work_in c.as_slice-in-IfElse.result.now ≡ work_in c.in-IfElse.body.items = ap work_in c.as_slice-in-IfElse.ensures.value in
-    let less : work_in c.as_slice-in-IfElse.result.now < t = omega (arith, whole, work, inside) in
+    let work : statement_work (statement_of c.args.statement.now) ≡ suc (suc (work_in c.in-IfElse.body.items + work_in c.in-IfElse.otherwise.items)) = ap statement_work is in
+    let one : work_in c.as_slice-in-IfElse.result.now ≡ work_in c.in-IfElse.body.items = ap work_in c.as_slice-in-IfElse.ensures.value in
+    let other : work_in c.as_slice-in-IfElse-2.result.now ≡ work_in c.in-IfElse.otherwise.items = ap work_in c.as_slice-in-IfElse-2.ensures.value in
+    let less : suc (work_in c.as_slice-in-IfElse.result.now + work_in c.as_slice-in-IfElse-2.result.now) < t = omega (arith, whole, work, one, other) in
     (less, tt)
 
 pub statement-turns-requires : goal.statement-turns-requires
@@ -61,10 +51,8 @@ statement-turns-requires t c =
     let less : turns_work c.in-For.count (work_in c.as_slice-in-For.result.now) < t = omega (arith, whole, work, inside) in
     (less, tt)
 
-pub statement-returns-in_ok-after-in-Load-clause-means :
-    goal.statement-returns-in_ok-after-in-Load-clause-means
-statement-returns-in_ok-after-in-Load-clause-means t c = λ s given.
-    rw c.in-Load.is (c.in_ok-after-in-Load.field-0-1, c.in_ok-after-in-Load.ensures.means s given)
+pub statement-returns-in-Load-clause-means : goal.statement-returns-in-Load-clause-means
+statement-returns-in-Load-clause-means t c = λ s given. rw c.in-Load.is (c.loads.ensures.means s given)
 
 pub statement-returns-in-Assign-clause-means : goal.statement-returns-in-Assign-clause-means
 statement-returns-in-Assign-clause-means t c = λ s given. rw c.in-Assign.is (c.assigns_in.ensures.means s given)
@@ -72,45 +60,42 @@ statement-returns-in-Assign-clause-means t c = λ s given. rw c.in-Assign.is (c.
 pub statement-returns-in-Call-clause-means : goal.statement-returns-in-Call-clause-means
 statement-returns-in-Call-clause-means t c = λ s given. rw c.in-Call.is (c.calls.ensures.means s given)
 
-pub statement-returns-then-value-eq0-clause-means :
-    goal.statement-returns-then-value-eq0-clause-means
-statement-returns-then-value-eq0-clause-means t c = λ s given.
+pub statement-returns-in-If-clause-means : goal.statement-returns-in-If-clause-means
+statement-returns-in-If-clause-means t c = λ s given.
     let is : statement_of c.args.statement.now ≡ tree.if_block (expression_of c.in-If.condition) (block_of c.in-If.body.items)
     = ap statement_of c.in-If.is ∙ statement_of-If c.in-If.condition c.in-If.body in
-    rw is (c.in_ok-between-in-If.value, stands c.in_ok-between-in-If.between, c.in_ok-between-in-If.ensures.means s given, inr (c.if-value-eq0.true, refl))
+    rw is (rw c.as_slice.ensures.value at (c.if_holds.ensures.means s given))
 
-pub statement-returns-in_ok-after_condition-in-If-clause-means :
-    goal.statement-returns-in_ok-after_condition-in-If-clause-means
-statement-returns-in_ok-after_condition-in-If-clause-means t c = λ s given.
-    let is : statement_of c.args.statement.now ≡ tree.if_block (expression_of c.in-If.condition) (block_of c.in-If.body.items)
-    = ap statement_of c.in-If.is ∙ statement_of-If c.in-If.condition c.in-If.body in
-    let inside = rw (c.in_ok-after_condition-in-If.ensures, c.as_slice.ensures.value) at (c.block.ensures.means s given) in
-    rw is (IfOk-weaker c.block.result _ _
-    (λ after means. (c.in_ok-between-in-If.value, stands c.in_ok-between-in-If.between, c.in_ok-between-in-If.ensures.means s given, inl (c.if-value-eq0.false, means)))
-    inside)
-
-pub statement-returns-else-value-eq0-2-clause-means :
-    goal.statement-returns-else-value-eq0-2-clause-means
-statement-returns-else-value-eq0-2-clause-means t c = λ s given.
+pub statement-returns-in-IfElse-clause-means : goal.statement-returns-in-IfElse-clause-means
+statement-returns-in-IfElse-clause-means t c = λ s given.
     let is : statement_of c.args.statement.now ≡ tree.if_else (expression_of c.in-IfElse.condition) (block_of c.in-IfElse.body.items) (block_of c.in-IfElse.otherwise.items)
     = ap statement_of c.in-IfElse.is ∙ statement_of-IfElse c.in-IfElse.condition c.in-IfElse.body c.in-IfElse.otherwise in
-    let inside = rw (c.in_ok-inside-in-IfElse.ensures, c.as_slice-in-IfElse.ensures.value) at (c.block-in-IfElse.ensures.means s given) in
-    rw is (IfOk-weaker c.block-in-IfElse.result _ _
-    (λ after means. (c.in_ok-between-in-IfElse.value, stands c.in_ok-between-in-IfElse.between, c.in_ok-between-in-IfElse.ensures.means s given, inl (c.if-value-eq0-2.false, means)))
-    inside)
+    rw is (rw (c.as_slice-in-IfElse.ensures.value, c.as_slice-in-IfElse-2.ensures.value) at (c.if_else.ensures.means s given))
 
-pub statement-returns-then-value-eq0-2-clause-means :
-    goal.statement-returns-then-value-eq0-2-clause-means
-statement-returns-then-value-eq0-2-clause-means t c = λ s given.
-    let is : statement_of c.args.statement.now ≡ tree.if_else (expression_of c.in-IfElse.condition) (block_of c.in-IfElse.body.items) (block_of c.in-IfElse.otherwise.items)
-    = ap statement_of c.in-IfElse.is ∙ statement_of-IfElse c.in-IfElse.condition c.in-IfElse.body c.in-IfElse.otherwise in
-    let passed = c.in_ok-sites_in-in-IfElse.ensures ∙ ap (λ (xs : List Statement). length (sites_of (block_of xs))) c.as_slice-then-value-eq0-2.ensures.value in
-    let other : c.in_ok-other-in-IfElse.other ≡ after_condition c.args.site (expression_of c.in-IfElse.condition) + length (sites_of (block_of c.in-IfElse.body.items))
-    = c.in_ok-other-in-IfElse.ensures ∙ two_sums c.in_ok-inside-in-IfElse.ensures passed in
-    let inside = rw (other, c.as_slice-then-value-eq0-2-2.ensures.value) at (c.block-then-value-eq0-2.ensures.means s given) in
-    rw is (IfOk-weaker c.block-then-value-eq0-2.result _ _
-    (λ after means. (c.in_ok-between-in-IfElse.value, stands c.in_ok-between-in-IfElse.between, c.in_ok-between-in-IfElse.ensures.means s given, inr (c.if-value-eq0-2.true, means)))
-    inside)
+pub if_holds-returns-then-value-eq0-clause-means : goal.if_holds-returns-then-value-eq0-clause-means
+if_holds-returns-then-value-eq0-clause-means t c = λ s given.
+    (c.in_ok-between.value, stands c.in_ok-between.between, c.in_ok-between.ensures.means s given, inr (c.if-value-eq0.true, refl))
+
+pub if_holds-returns-clause-means : goal.if_holds-returns-clause-means
+if_holds-returns-clause-means t c = λ s given.
+    let inside = rw c.in_ok-after_condition.ensures at (c.block.ensures.means s given) in
+    IfOk-weaker c.block.result _ _
+    (λ after means. (c.in_ok-between.value, stands c.in_ok-between.between, c.in_ok-between.ensures.means s given, inl (c.if-value-eq0.false, means)))
+    inside
+
+pub if_else-returns-then-value-eq0-clause-means : goal.if_else-returns-then-value-eq0-clause-means
+if_else-returns-then-value-eq0-clause-means t c = λ s given.
+    let inside = rw c.in_ok-after_body.ensures at (c.block.ensures.means s given) in
+    IfOk-weaker c.block.result _ _
+    (λ after means. (c.in_ok-between.value, stands c.in_ok-between.between, c.in_ok-between.ensures.means s given, inr (c.if-value-eq0.true, means)))
+    inside
+
+pub if_else-returns-clause-means : goal.if_else-returns-clause-means
+if_else-returns-clause-means t c = λ s given.
+    let inside = rw c.in_ok-after_condition.ensures at (c.block-2.ensures.means s given) in
+    IfOk-weaker c.block-2.result _ _
+    (λ after means. (c.in_ok-between.value, stands c.in_ok-between.between, c.in_ok-between.ensures.means s given, inl (c.if-value-eq0.false, means)))
+    inside
 
 pub statement-returns-in-For-clause-means : goal.statement-returns-in-For-clause-means
 statement-returns-in-For-clause-means t c = λ s given.
