@@ -1,5 +1,6 @@
 //! What is read of a kernel's configuration.
 
+use crate::same::{same, same_at};
 use kernel_config::{KernelConfig, is_set};
 
 /// A part of a configuration, as the kernel's build writes it.
@@ -21,18 +22,34 @@ const WRITTEN: &str = "\
     # CONFIG_KCSAN_PERMISSIVE is not set\n\
     CONFIG_LOCALVERSION=\"CONFIG_KCSAN_SKIP_WATCH=7\"\n";
 
+/// What a configuration says of value-change-only, atomic plain writes, random skips and unknown origins.
+fn switches(config: KernelConfig<'_>) -> [Option<bool>; 4] {
+    [
+        config.value_change_only,
+        config.plain_writes_atomic,
+        config.randomize,
+        config.unknown_origin,
+    ]
+}
+
+/// What it says of skips and slots.
+fn numbers<'a>(config: KernelConfig<'a>) -> [Option<&'a str>; 2] {
+    [config.skip, config.slots]
+}
+
 #[test]
 fn settings_are_read(rt: HostRuntime) {
     let config = KernelConfig::read(WRITTEN);
-    assert_eq!(rt; config.value_change_only, Some(true));
-    assert_eq!(rt; config.plain_writes_atomic, Some(false));
-    assert_eq!(rt; config.skip, Some("4000"));
-    assert_eq!(rt; config.randomize, Some(true));
-    assert_eq!(rt; config.slots, Some("64"));
-    assert_eq!(rt; config.unknown_origin, Some(true));
-    assert!(rt; is_set(WRITTEN, "CONFIG_KCSAN_UDELAY_TASK"));
-    assert!(rt; !is_set(WRITTEN, "CONFIG_KCSAN_INTERRUPT_WATCHER"));
-    assert!(rt; !is_set(WRITTEN, "CONFIG_KCSAN_WEAK_MEMORY"));
+    let wanted = [Some(true), Some(false), Some(true), Some(true)];
+    same(&rt, switches(config), wanted);
+    same(&rt, numbers(config), [Some("4000"), Some("64")]);
+    for (name, wanted) in [
+        ("CONFIG_KCSAN_UDELAY_TASK", true),
+        ("CONFIG_KCSAN_INTERRUPT_WATCHER", false),
+        ("CONFIG_KCSAN_WEAK_MEMORY", false),
+    ] {
+        same_at(&rt, name, is_set(WRITTEN, name), wanted);
+    }
 }
 
 #[test]
@@ -42,17 +59,17 @@ fn the_last_line_decides(rt: HostRuntime) {
         CONFIG_KCSAN_REPORT_VALUE_CHANGE_ONLY=y\n# CONFIG_KCSAN_REPORT_VALUE_CHANGE_ONLY is not set\n\
         CONFIG_KCSAN_ASSUME_PLAIN_WRITES_ATOMIC=m";
     let config = KernelConfig::read(text);
-    assert_eq!(rt; config.skip, Some("2"));
-    assert_eq!(rt; config.value_change_only, Some(false));
-    assert_eq!(rt; config.plain_writes_atomic, None);
-    assert_eq!(rt; config.randomize, None);
-    assert_eq!(rt; config.slots, None);
+    same(&rt, switches(config), [Some(false), None, None, None]);
+    same(&rt, numbers(config), [Some("2"), None]);
 }
 
 #[test]
 fn a_strict_kernel_has_neither(rt: HostRuntime) {
     let config = KernelConfig::read("CONFIG_KCSAN_STRICT=y\n");
-    assert_eq!(rt; config.value_change_only, Some(false));
-    assert_eq!(rt; config.plain_writes_atomic, Some(false));
-    assert_eq!(rt; KernelConfig::read("").value_change_only, None);
+    same(
+        &rt,
+        switches(config),
+        [Some(false), Some(false), None, None],
+    );
+    same(&rt, switches(KernelConfig::read("")), [None; 4]);
 }

@@ -36,21 +36,24 @@ fn kinds_have_their_flags(rt: HostRuntime) {
     }
 }
 
+/// What each kind is called.
+const WORDS: [(Kind, &str); 10] = [
+    (Kind::Plain(Operation::Read), "read"),
+    (Kind::Plain(Operation::Write), "write"),
+    (Kind::Plain(Operation::ReadWrite), "read-write"),
+    (Kind::Marked(Operation::Read), "read (marked)"),
+    (Kind::Marked(Operation::Write), "write (marked)"),
+    (Kind::Marked(Operation::ReadWrite), "read-write (marked)"),
+    (Kind::Assert(Claim::NoWrites), "assert no writes"),
+    (Kind::Assert(Claim::NoAccesses), "assert no accesses"),
+    (Kind::AssertScoped(Claim::NoWrites), "assert no writes"),
+    (Kind::AssertScoped(Claim::NoAccesses), "assert no accesses"),
+];
+
 #[test]
 fn kinds_have_their_words(rt: HostRuntime) {
-    for (kind, text) in [
-        (Kind::Plain(Operation::Read), "read"),
-        (Kind::Plain(Operation::Write), "write"),
-        (Kind::Plain(Operation::ReadWrite), "read-write"),
-        (Kind::Marked(Operation::Read), "read (marked)"),
-        (Kind::Marked(Operation::Write), "write (marked)"),
-        (Kind::Marked(Operation::ReadWrite), "read-write (marked)"),
-        (Kind::Assert(Claim::NoWrites), "assert no writes"),
-        (Kind::Assert(Claim::NoAccesses), "assert no accesses"),
-        (Kind::AssertScoped(Claim::NoWrites), "assert no writes"),
-        (Kind::AssertScoped(Claim::NoAccesses), "assert no accesses"),
-    ] {
-        same(&rt, words(&kind), text);
+    for (kind, text) in &WORDS {
+        same(&rt, words(kind), *text);
     }
 }
 

@@ -1,12 +1,12 @@
 //! Accesses by ticket.
 
-use crate::same::same_at;
+use crate::same::{same, same_at};
 use access_types::access::Access;
 use access_types::kind::{Kind, Operation};
 use access_types::sites::Sites;
 use access_types::tickets::ticket;
+use std::alloc::AllocError;
 use std::process::Abort;
-use std::test::Fail;
 
 /// The access of task 0 at a site, to four bytes of its own.
 fn read_at(site: u8) -> Option<Access> {
@@ -25,41 +25,49 @@ fn expect_sites_below(rt: &impl Abort, sites: &Sites, count: u8) {
     }
 }
 
+/// Adds an access, whose ticket has to be new.
+fn add(rt: &impl Abort, sites: &mut Sites, access: &Access) -> Result<(), AllocError> {
+    assert!(rt; sites.get(ticket(access)).is_none());
+    sites.add(access)
+}
+
+/// The first accesses of tasks 0 and 1.
+fn firsts(rt: &impl Abort) -> [Access; 2] {
+    let read = Access::new(0, 0, 0x10000, 4, Kind::Plain(Operation::Read), None);
+    let write = Access::new(1, 0, 0x10000, 4, Kind::Plain(Operation::Write), None);
+    [read.expect(rt, "an access"), write.expect(rt, "an access")]
+}
+
 #[test]
-fn accesses_are_found_by_ticket(rt: HostRuntime) -> Result<(), Fail> {
-    let read = Access::new(0, 0, 0x10000, 4, Kind::Plain(Operation::Read), None)?;
-    let write = Access::new(1, 0, 0x10000, 4, Kind::Plain(Operation::Write), None)?;
+fn accesses_are_found_by_ticket(rt: HostRuntime) {
+    let [read, write] = firsts(&rt);
     let mut sites = Sites::new(rt.alloc());
-    for access in [read, write] {
-        assert!(rt; sites.get(ticket(&access)).is_none());
-        sites.add(&access)?;
+    add(&rt, &mut sites, &read).expect(&rt, "memory");
+    add(&rt, &mut sites, &write).expect(&rt, "memory");
+    same(&rt, sites.get(1).copied(), Some(read));
+    same(&rt, sites.get(65537).copied(), Some(write));
+    for number in [0, 2, 65536] {
+        same_at(&rt, number, sites.get(number).copied(), None);
     }
-    for (number, wanted) in [
-        (0, None),
-        (1, Some(read)),
-        (2, None),
-        (65536, None),
-        (65537, Some(write)),
-    ] {
-        same_at(&rt, number, sites.get(number).copied(), wanted);
+}
+
+/// Adds the access of a site. A refused growth leaves the sites as they were.
+fn add_at(rt: &impl Abort, sites: &mut Sites, site: u8) {
+    let access = read_at(site).expect(rt, "an access");
+    if add(rt, sites, &access).is_err() {
+        expect_sites_below(rt, sites, site);
+        add(rt, sites, &access).expect(rt, "memory");
     }
-    Ok(())
 }
 
 /// Where memory is ample, each access is added at once. Run under a refusal of the Nth growth
 /// for each N, this shows that the map is then unchanged, and that the access can be added
 /// later.
 #[test]
-fn a_refused_growth_leaves_the_sites_unchanged(rt: HostRuntime) -> Result<(), Fail> {
+fn a_refused_growth_leaves_the_sites_unchanged(rt: HostRuntime) {
     let mut sites = Sites::new(rt.alloc());
     for site in 0..64 {
-        let access = read_at(site).ok_or("an access")?;
-        assert!(rt; sites.get(ticket(&access)).is_none());
-        if sites.add(&access).is_err() {
-            expect_sites_below(&rt, &sites, site);
-            sites.add(&access)?;
-        }
+        add_at(&rt, &mut sites, site);
         expect_sites_below(&rt, &sites, site + 1);
     }
-    Ok(())
 }

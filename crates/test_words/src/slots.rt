@@ -20,37 +20,55 @@ fn slots() -> [Slot; 4] {
 
 #[test]
 fn slots_hold_their_words(rt: HostRuntime) {
-    for (slot, word) in slots().into_iter().zip([0, 1, READ, WRITE]) {
-        same(&rt, slot.load(), word);
-    }
+    let [empty, consumed, read, write] = slots();
+    let words = [empty.load(), consumed.load(), read.load(), write.load()];
+    same(&rt, words, [0, 1, READ, WRITE]);
     same(&rt, Slot::default(), Slot::new());
+}
+
+/// What a slot answers to `insert`, and its word then.
+fn inserted(mut slot: Slot) -> (bool, u64) {
+    let answer = slot.insert(READ);
+    (answer, slot.load())
 }
 
 #[test]
 fn insert_fills_an_empty_slot_only(rt: HostRuntime) {
-    let wanted = [(true, READ), (false, 1), (false, READ), (false, WRITE)];
-    for (mut slot, want) in slots().into_iter().zip(wanted) {
-        let answer = slot.insert(READ);
-        same(&rt, (answer, slot.load()), want);
-    }
+    let [empty, consumed, read, write] = slots();
+    same(&rt, inserted(empty), (true, READ));
+    same(&rt, inserted(consumed), (false, 1));
+    same(&rt, inserted(read), (false, READ));
+    same(&rt, inserted(write), (false, WRITE));
+}
+
+/// What a slot answers to `try_consume`, and its word then.
+fn tried(mut slot: Slot) -> (bool, u64) {
+    let answer = slot.try_consume(READ);
+    (answer, slot.load())
 }
 
 #[test]
 fn try_consume_takes_its_word_only(rt: HostRuntime) {
-    let wanted = [(false, 0), (false, 1), (true, 1), (false, WRITE)];
-    for (mut slot, want) in slots().into_iter().zip(wanted) {
-        let answer = slot.try_consume(READ);
-        same(&rt, (answer, slot.load()), want);
-    }
+    let [empty, consumed, read, write] = slots();
+    same(&rt, tried(empty), (false, 0));
+    same(&rt, tried(consumed), (false, 1));
+    same(&rt, tried(read), (true, 1));
+    same(&rt, tried(write), (false, WRITE));
+}
+
+/// What a slot answers to `consume`, and its word then.
+fn consumed(mut slot: Slot) -> (bool, u64) {
+    let answer = slot.consume();
+    (answer, slot.load())
 }
 
 #[test]
 fn consume_tells_an_untouched_watchpoint(rt: HostRuntime) {
-    let wanted = [(false, 1), (false, 1), (true, 1), (true, 1)];
-    for (mut slot, want) in slots().into_iter().zip(wanted) {
-        let answer = slot.consume();
-        same(&rt, (answer, slot.load()), want);
-    }
+    let [empty, taken, read, write] = slots();
+    same(&rt, consumed(empty), (false, 1));
+    same(&rt, consumed(taken), (false, 1));
+    same(&rt, consumed(read), (true, 1));
+    same(&rt, consumed(write), (true, 1));
 }
 
 #[test]
