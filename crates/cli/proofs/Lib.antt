@@ -1,3 +1,4 @@
+mod CalledLemmas
 mod RacesLemmas
 mod SearchLemmas
 mod ValueLemmas

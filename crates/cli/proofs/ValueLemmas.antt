@@ -10,10 +10,10 @@ use Rattle.clap.specs.Words.{ReadsOne, Row, Text, first_of, first_value, is_simp
 use Rattle.clap.specs.declared.parser.matches.Found.{Found}
 use Rattle.clap.proofs.WalkLemmas.{first_value-rows, one_text-rows, raw_values-rows}
 use Rattle.cli.specs.Bounds.{KeepsPreemptions}
-use Rattle.cli.specs.Words.{AreNames, Ask, AskSwitches, IsAskedBy, IsAskedOf, IsFlag, IsNumber, IsNumberIfGiven, program_app, words_of}
+use Rattle.cli.specs.Words.{AreNames, Ask, AskSwitches, IsAskedBy, IsAskedOf, IsFlag, IsNumber, IsNumberIfGiven, check_app, program_app, races_app, replay_app, run_app}
+use Rattle.cli.specs.Words.{search_app, show_app, step_app, with_options, with_settings, words_of}
 use Rattle.cli.specs.declared.program.Names.{Names}
 use Rattle.cli.specs.declared.request.Request.{Request}
-use Rattle.cli.specs.declared.request.Request.TheVariants as requests
 use Rattle.cli.specs.declared.request.Switches.{Switches}
 use Rattle.cli.specs.declared.request.Switches.TheVariants as switches
 
@@ -75,6 +75,11 @@ not_missing {X} result some none = let no : false ≡ true = sym (ap (λ (o : Op
 pub is_there : {X : Type 0} (result : Option X) → ((x : X) → result ≡ Some x → ⊥) → is_some result ≡ true → ⊥
 is_there None other some = absurd (let no : false ≡ true = some in cc)
 is_there (Some x) other some = other x refl
+
+-- of nothing anything holds
+pub none_holds : {X : Type 0} (P : X → Type 0) (result : Option X) → result ≡ None → IfSome result P
+none_holds P None is = tt
+none_holds P (Some x) is = absurd (cc)
 
 -- an option that has no value is not given
 pub none_read : (found : Found) (option : Text) (result : Option (Bor Text))
@@ -173,27 +178,6 @@ third_is_not true true false rest is = refl
 third_is_not true false third rest is = absurd (cc)
 third_is_not false other third rest is = absurd (cc)
 
--- `replay` asks for a trace
-pub asked_replay : (name : Text) (values : List Row) (request : Request) → name ≡ codes "replay" → IsAskedBy name values request
-    → (text : Text) × (first_of (codes "TRACE") values ≡ Some text)
-asked_replay name values (requests.Step request) is asks =
-    absurd (let long : 4 ≡ 6 = ap (λ (text : Text). length text) (sym asks.0 ∙ is) in omega (arith, long))
-asked_replay name values (requests.Run request) is asks =
-    absurd (let long : 3 ≡ 6 = ap (λ (text : Text). length text) (sym asks.0 ∙ is) in omega (arith, long))
-asked_replay name values (requests.Search request) is asks =
-    absurd (let first : 115 ≡ 114 = ap (λ (text : Text). get_or text 0 0) (sym asks.0 ∙ is) in omega (arith, first))
-asked_replay name values (requests.Searches request) is asks =
-    absurd (let first : 115 ≡ 114 = ap (λ (text : Text). get_or text 0 0) (sym asks.0 ∙ is) in omega (arith, first))
-asked_replay name values (requests.Races request) is asks =
-    absurd (let long : 5 ≡ 6 = ap (λ (text : Text). length text) (sym asks.0 ∙ is) in omega (arith, long))
-asked_replay name values (requests.Replay request) is asks = (request.trace.now, asks.1)
-asked_replay name values (requests.Show request) is asks =
-    absurd (let long : 4 ≡ 6 = ap (λ (text : Text). length text) (sym asks.0 ∙ is) in omega (arith, long))
-asked_replay name values (requests.Check request) is asks =
-    absurd (let long : 5 ≡ 6 = ap (λ (text : Text). length text) (sym asks.0 ∙ is) in omega (arith, long))
-asked_replay name values requests.Calls is asks =
-    absurd (let long : 5 ≡ 6 = ap (λ (text : Text). length text) (sym asks.0 ∙ is) in omega (arith, long))
-
 -- the words ask for what the command that they call asks for
 pub asked_by : (words : List Text) (names : Names) → AreNames names → (called : Option (Text × List Row)) (request : Request)
     → subcommand_of (program_app names) words ≡ called → IsAskedOf called request → Ask words request
@@ -210,9 +194,11 @@ asked_by words names are (Some call) request is asked = record {
 }
 
 pub program_is_simple : (names : Names) → is_simple (program_app names) ≡ true
+unfolding program_app step_app with_options with_settings run_app search_app races_app replay_app show_app check_app
 program_is_simple names = refl
 
 pub program_is_free : (names : Names) → is_simple_and_free (program_app names) ≡ true
+unfolding program_app step_app with_options with_settings run_app search_app races_app replay_app show_app check_app
 program_is_free names = refl
 
 -- what holds of an error holds of what is answered with it

@@ -80,7 +80,7 @@ abbrev pub lettered : (letter : ℕ) → Rule → Rule
 lettered letter rule = record rule { short = Some letter }
 
 -- a command, also with the settings of a run: the places, what a wait takes, and those of KCSAN
-abbrev pub with_settings : App → Names → App
+unfoldable pub with_settings : App → Names → App
 with_settings app names =
     with_rule (with_rule (with_rule (with_rule (with_rule (with_rule (with_rule (with_rule (with_rule (with_rule (with_rule app
     (default_rule (codes "place") []))
@@ -97,12 +97,12 @@ with_settings app names =
 
 -- a command, also with the options that `step`, `run` and `search` all have: those settings, whether places are
 -- wanted, and the trace
-abbrev pub with_options : App → Names → App
+unfoldable pub with_options : App → Names → App
 with_options app names =
     with_rule (with_rule (with_settings app names) (flag_rule (codes "where"))) (lettered 111 (text_rule (codes "trace")))
 
 -- `step`, with its file, its schedule and those options
-abbrev pub step_app : Names → App
+unfoldable pub step_app : Names → App
 step_app names =
     with_options (with_rule (with_rule (new_app (codes "step"))
     (word_rule (codes "FILE")))
@@ -110,7 +110,7 @@ step_app names =
 
 -- `run`, with its file, how many runs there are, the delay of a watch, how many runs are made side by side, where they
 -- end, and those options
-abbrev pub run_app : Names → App
+unfoldable pub run_app : Names → App
 run_app names =
     with_options (with_rule (with_rule (with_rule (with_rule (with_rule (with_rule (new_app (codes "run"))
     (word_rule (codes "FILE")))
@@ -123,7 +123,7 @@ run_app names =
 -- `search`, with its files, how what is found is printed, whether the settings are, how many preemptions a schedule has at most, after how many
 -- schedules or states and after how many seconds a search stops, how many threads share the work, and those options;
 -- what `--switches` takes is said below
-abbrev pub search_app : Names → App
+unfoldable pub search_app : Names → App
 search_app names =
     with_options (with_rule (with_rule (with_rule (with_rule (with_rule (with_rule (with_rule (new_app (codes "search"))
     (some_words_rule (codes "FILE")))
@@ -136,7 +136,7 @@ search_app names =
 
 -- `races`, with its files, how races are printed, after how many states or schedules and after how many seconds a
 -- search stops, how many threads share the files, and those settings
-abbrev pub races_app : Names → App
+unfoldable pub races_app : Names → App
 races_app names =
     with_settings (with_rule (with_rule (with_rule (with_rule (with_rule (new_app (codes "races"))
     (some_words_rule (codes "FILE")))
@@ -146,11 +146,11 @@ races_app names =
     (number_rule (codes "jobs") 1 64 (codes "1"))) names
 
 -- `replay`, with its file
-abbrev pub replay_app : App
+unfoldable pub replay_app : App
 replay_app = with_rule (new_app (codes "replay")) (word_rule (codes "TRACE"))
 
 -- `show`, with its file, the file that a picture goes to, and whether the text is drawn with ASCII alone
-abbrev pub show_app : App
+unfoldable pub show_app : App
 show_app = with_rule (with_rule (with_rule (new_app (codes "show"))
     (word_rule (codes "TRACE")))
     (lettered 111 (text_rule (codes "svg"))))
@@ -158,7 +158,7 @@ show_app = with_rule (with_rule (with_rule (new_app (codes "show"))
 
 -- `check`, with its files, whether the printed form is wanted, whether the calls that are read are, and the options by
 -- which accesses have addresses and watch words
-abbrev pub check_app : Names → App
+unfoldable pub check_app : Names → App
 check_app names =
     with_rule (with_rule (with_rule (with_rule (with_rule (with_rule (with_rule (new_app (codes "check"))
     (words_rule (codes "FILE")))
@@ -170,7 +170,7 @@ check_app names =
     (name_rule (codes "word") names.sizes (codes "64"))
 
 -- the program, which has a version, and one of whose commands has to be named
-abbrev pub program_app : Names → App
+unfoldable pub program_app : Names → App
 program_app names =
     with_subcommand (with_subcommand (with_subcommand (with_subcommand (with_subcommand (with_subcommand (with_subcommand
     (on_top (λ shape. record shape { has_version = true; subcommand_required = true }) (new_app (codes "kcsan_litmus")))
@@ -428,3 +428,9 @@ pub record AskForNothing (words : List Text) : Type 0 where
 abbrev pub MayFail : List Text → ErrorKind → Type 0
 MayFail words kind =
     (kind ≡ kinds.OutOfMemory) ⊎ (((kind ≡ kinds.ValueValidation) × AskForNothing words) ⊎ IsSaidOf words kind)
+
+-- and this in place of what the command that was called, with its values, if there is one, asks for
+abbrev pub MayBeSaid : Option (Text × List Row) → ErrorKind → Type 0
+MayBeSaid called kind =
+    (kind ≡ kinds.OutOfMemory)
+    ⊎ ((kind ≡ kinds.ValueValidation) × ((request : Request) → MayBeAsked request → IsAskedOf called request → ⊥))

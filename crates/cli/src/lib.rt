@@ -1,6 +1,7 @@
 //! What the words of the command line ask the program to do.
 #![tactic(auto)]
 
+pub mod arguments;
 pub mod help;
 pub mod program;
 pub mod request;

@@ -1,16 +1,14 @@
 //! The commands that the program knows, with their options.
 
-ghost use Rattle.std.specs.Prelude.{◌≡◌, IfOk, Some, [], codes, true};
-ghost use Rattle.cli.specs.Words.{AreNames, IsArg, IsProgram, check_app, default_rule, flag_rule, free_name_rule, free_number_rule, name_rule};
-ghost use Rattle.cli.specs.Words.{number_rule, races_app, replay_app, run_app, search_app, show_app, some_words_rule, step_app, text_rule};
-ghost use Rattle.cli.specs.Words.{with_options, with_settings, word_rule, words_rule};
-ghost use Rattle.clap.specs.Words.{App, Rule, app_of, new_app, with_rule, with_subcommand};
+ghost use Rattle.std.specs.Prelude.{◌≡◌, IfOk, true};
+ghost use Rattle.cli.specs.Words.{AreNames, IsProgram, check_app, races_app, replay_app, run_app, search_app, show_app, step_app};
+ghost use Rattle.cli.specs.Words.{with_options, with_settings};
+ghost use Rattle.clap.specs.Words.{App, app_of, new_app, with_subcommand};
 
+use crate::arguments::{Entry, Kind, NameList, Takes, with_entries};
 use crate::help;
-use crate::help::Help;
 use crate::version::VERSION;
-use clap::builder::ValueParser;
-use clap::{Arg, ArgAction, Command};
+use clap::Command;
 use std::alloc::{AllocError, Global};
 
 /// The fewest and the most runs.
@@ -64,6 +62,293 @@ const OUTPUT: &str = "Output";
 /// The heading of KCSAN's settings.
 const KCSAN: &str = "KCSAN";
 
+/// The file and the options of `step` alone.
+static STEP_ENTRIES: [Entry; 3] = [
+    Entry::Argument(
+        "FILE",
+        None,
+        Takes::Words {
+            needed: true,
+            several: false,
+        },
+        help::FILE,
+    ),
+    Entry::Heading(RUN),
+    Entry::Argument(
+        "schedule",
+        Some('s'),
+        Takes::Value("S", Kind::Text, Some("")),
+        help::SCHEDULE,
+    ),
+];
+
+/// The file and the options of `run` alone.
+static RUN_ENTRIES: [Entry; 7] = [
+    Entry::Argument(
+        "FILE",
+        None,
+        Takes::Words {
+            needed: true,
+            several: false,
+        },
+        help::FILE,
+    ),
+    Entry::Heading(RUN),
+    Entry::Argument(
+        "runs",
+        Some('r'),
+        Takes::Value("N", Kind::Number(RUNS), Some("100")),
+        help::RUNS,
+    ),
+    Entry::Argument(
+        "delay",
+        None,
+        Takes::Value("N", Kind::Number(DELAY), Some("64")),
+        help::DELAY,
+    ),
+    Entry::Argument(
+        "jobs",
+        None,
+        Takes::Value("N", Kind::Number(JOBS), Some("1")),
+        help::JOBS,
+    ),
+    Entry::Argument("stop-at-first", None, Takes::Nothing, help::STOP_AT_FIRST),
+    Entry::Argument("keep-going", None, Takes::Nothing, help::KEEP_GOING),
+];
+
+/// The files and the options of `search` alone.
+static SEARCH_ENTRIES: [Entry; 9] = [
+    Entry::Argument(
+        "FILE",
+        None,
+        Takes::Words {
+            needed: true,
+            several: true,
+        },
+        help::FILES,
+    ),
+    Entry::Heading(OUTPUT),
+    Entry::Argument(
+        "format",
+        None,
+        Takes::Value("FORMAT", Kind::Name(NameList::SearchFormats), Some("text")),
+        help::SEARCH_FORMAT,
+    ),
+    Entry::Argument("settings", None, Takes::Nothing, help::SETTINGS),
+    Entry::Heading(SEARCH),
+    Entry::Argument(
+        "switches",
+        None,
+        Takes::Value("N", Kind::Text, Some("2")),
+        help::SWITCHES,
+    ),
+    Entry::Argument(
+        "limit",
+        None,
+        Takes::Value("N", Kind::Number(LIMIT), Some("1000000")),
+        help::LIMIT,
+    ),
+    Entry::Argument(
+        "seconds",
+        None,
+        Takes::Value("N", Kind::Number(SECONDS), None),
+        help::SECONDS,
+    ),
+    Entry::Argument(
+        "jobs",
+        None,
+        Takes::Value("N", Kind::Number(JOBS), Some("1")),
+        help::SEARCH_JOBS,
+    ),
+];
+
+/// The files and the options of `races` alone.
+static RACES_ENTRIES: [Entry; 7] = [
+    Entry::Argument(
+        "FILE",
+        None,
+        Takes::Words {
+            needed: true,
+            several: true,
+        },
+        help::FILES,
+    ),
+    Entry::Heading(OUTPUT),
+    Entry::Argument(
+        "format",
+        None,
+        Takes::Value("FORMAT", Kind::Name(NameList::Formats), Some("text")),
+        help::FORMAT,
+    ),
+    Entry::Heading(SEARCH),
+    Entry::Argument(
+        "limit",
+        None,
+        Takes::Value("N", Kind::Number(LIMIT), Some("1000000")),
+        help::RACES_LIMIT,
+    ),
+    Entry::Argument(
+        "seconds",
+        None,
+        Takes::Value("N", Kind::Number(SECONDS), None),
+        help::RACES_SECONDS,
+    ),
+    Entry::Argument(
+        "jobs",
+        None,
+        Takes::Value("N", Kind::Number(JOBS), Some("1")),
+        help::RACES_JOBS,
+    ),
+];
+
+/// The file of `replay`.
+static REPLAY_ENTRIES: [Entry; 1] = [Entry::Argument(
+    "TRACE",
+    None,
+    Takes::Words {
+        needed: true,
+        several: false,
+    },
+    help::REPLAYED,
+)];
+
+/// The file and the options of `show`.
+static SHOW_ENTRIES: [Entry; 4] = [
+    Entry::Argument(
+        "TRACE",
+        None,
+        Takes::Words {
+            needed: true,
+            several: false,
+        },
+        help::REPLAYED,
+    ),
+    Entry::Heading(OUTPUT),
+    Entry::Argument(
+        "svg",
+        Some('o'),
+        Takes::Value("PATH", Kind::Text, None),
+        help::SVG,
+    ),
+    Entry::Argument("ascii", None, Takes::Nothing, help::ASCII),
+];
+
+/// The files and the options of `check`.
+static CHECK_ENTRIES: [Entry; 10] = [
+    Entry::Argument(
+        "FILE",
+        None,
+        Takes::Words {
+            needed: false,
+            several: true,
+        },
+        help::FILES,
+    ),
+    Entry::Heading(OUTPUT),
+    Entry::Argument("print", None, Takes::Nothing, help::PRINT),
+    Entry::Argument("calls", None, Takes::Nothing, help::CALLS),
+    Entry::Heading(RUN),
+    Entry::Argument(
+        "schedule",
+        Some('s'),
+        Takes::Value("S", Kind::Text, Some("")),
+        help::CHECK_SCHEDULE,
+    ),
+    Entry::Argument(
+        "place",
+        None,
+        Takes::Value("LIST", Kind::Text, Some("")),
+        help::PLACE,
+    ),
+    Entry::Heading(KCSAN),
+    Entry::Argument(
+        "slots",
+        None,
+        Takes::Value("N", Kind::Number(SLOTS), Some("64")),
+        help::SLOTS,
+    ),
+    Entry::Argument(
+        "word",
+        None,
+        Takes::Value("BITS", Kind::Name(NameList::Sizes), Some("64")),
+        help::WORD,
+    ),
+];
+
+/// The options that `step`, `run`, `search` and `races` share: the places and what a wait takes, under the heading that
+/// the command is at, and KCSAN's settings.
+static SETTINGS: [Entry; 12] = [
+    Entry::Argument(
+        "place",
+        None,
+        Takes::Value("LIST", Kind::Text, Some("")),
+        help::PLACE,
+    ),
+    Entry::Argument(
+        "turns",
+        None,
+        Takes::Value("N", Kind::Number(TURNS), Some("1000000")),
+        help::TURNS,
+    ),
+    Entry::Heading(KCSAN),
+    Entry::Argument(
+        "slots",
+        None,
+        Takes::Value("N", Kind::Number(SLOTS), Some("64")),
+        help::SLOTS,
+    ),
+    Entry::Argument(
+        "skip",
+        None,
+        Takes::Value("N", Kind::Number(SKIP), Some("0")),
+        help::SKIP,
+    ),
+    Entry::Argument("randomize", None, Takes::Nothing, help::RANDOMIZE),
+    Entry::Argument(
+        "seed",
+        None,
+        Takes::Value("N", Kind::Number((0, u64::MAX)), Some("1")),
+        help::SEED,
+    ),
+    Entry::Argument(
+        "value-change-only",
+        None,
+        Takes::Value("yes|no", Kind::Name(NameList::Choices), None),
+        help::VALUE_CHANGE_ONLY,
+    ),
+    Entry::Argument(
+        "plain-writes-atomic",
+        None,
+        Takes::Value("yes|no", Kind::Name(NameList::Choices), None),
+        help::PLAIN_WRITES_ATOMIC,
+    ),
+    Entry::Argument("strict", None, Takes::Nothing, help::STRICT),
+    Entry::Argument(
+        "kconfig",
+        None,
+        Takes::Value("FILE", Kind::Text, None),
+        help::KCONFIG,
+    ),
+    Entry::Argument(
+        "word",
+        None,
+        Takes::Value("BITS", Kind::Name(NameList::Sizes), Some("64")),
+        help::WORD,
+    ),
+];
+
+/// The options that `step`, `run` and `search` share behind these.
+static OUTPUT_OPTIONS: [Entry; 3] = [
+    Entry::Heading(OUTPUT),
+    Entry::Argument("where", None, Takes::Nothing, help::WHERE),
+    Entry::Argument(
+        "trace",
+        Some('o'),
+        Takes::Value("PATH", Kind::Text, None),
+        help::TRACE,
+    ),
+];
+
 /// The names that options take.
 #[derive(Clone, Copy)]
 pub struct Names {
@@ -104,8 +389,8 @@ pub(crate) fn program<'a>(alloc: Global) -> Result<Command<'a>, AllocError>
     let command = with_subcommand(command, run_command(alloc, names));
     let command = with_subcommand(command, search_command(alloc, names));
     let command = with_subcommand(command, races_command(alloc, names));
-    let command = with_subcommand(command, replay_command(alloc));
-    let command = with_subcommand(command, show_command(alloc));
+    let command = with_subcommand(command, replay_command(alloc, names));
+    let command = with_subcommand(command, show_command(alloc, names));
     with_subcommand(command, check_command(alloc, names))
 }
 
@@ -118,29 +403,6 @@ fn named<'a>(alloc: Global, name: &'a str, about: &'a str, after: &'a str) -> Co
         .after_long_help(after)
 }
 
-/// A command with one more argument. Want of memory is passed on, so that functions that add many arguments have one
-/// way out: many ways out, each with a command to drop, are dear to prove.
-fn with_argument<'a>(
-    command: Result<Command<'a>, AllocError>,
-    argument: Arg<'a>,
-) -> Result<Command<'a>, AllocError>
-    ensures { (app : App) (rule : Rule) → IfOk command.entry (λ before. app_of before ≡ app) → IsArg rule argument.entry
-        → IfOk result (λ more. app_of more ≡ with_rule app rule) }
-{
-    command?.arg(argument)
-}
-
-/// A command whose further arguments help lists under this heading. Want of memory is passed on.
-fn with_heading<'a>(
-    command: Result<Command<'a>, AllocError>,
-    heading: &'a str,
-) -> Result<Command<'a>, AllocError>
-    ensures { (app : App) → IfOk command.entry (λ before. app_of before ≡ app)
-        → IfOk result (λ more. app_of more ≡ app) }
-{
-    Ok(command?.next_help_heading(heading))
-}
-
 /// A command with one more subcommand. Want of memory is passed on.
 fn with_subcommand<'a>(
     command: Result<Command<'a>, AllocError>,
@@ -149,71 +411,16 @@ fn with_subcommand<'a>(
     ensures { (app sub : App) → IfOk command.entry (λ before. app_of before ≡ app) → IfOk subcommand.entry (λ one. app_of one ≡ sub)
         → sub.top.is_plain ≡ true → IfOk result (λ more. app_of more ≡ with_subcommand app sub.top) }
 {
-    command?.subcommand(subcommand?)
-}
-
-/// `replay`, with its file.
-fn replay_command<'a>(alloc: Global) -> Result<Command<'a>, AllocError>
-    ensures { IfOk result (λ command. app_of command ≡ replay_app) }
-{
-    let command = named(alloc, "replay", help::REPLAY, help::AFTER_REPLAY);
-    with_argument(Ok(command), file(alloc, "TRACE", help::REPLAYED))
-}
-
-/// `show`, with its file and its options.
-fn show_command<'a>(alloc: Global) -> Result<Command<'a>, AllocError>
-    ensures { IfOk result (λ command. app_of command ≡ show_app) }
-{
-    let command = Ok(named(alloc, "show", help::SHOW, help::AFTER_SHOW));
-    let command = with_argument(command, file(alloc, "TRACE", help::REPLAYED));
-    let command = with_heading(command, OUTPUT);
-    let svg = lettered(text_option(alloc, "svg", "PATH", help::SVG), 'o');
-    let command = with_argument(command, svg);
-    with_argument(command, flag(alloc, "ascii", help::ASCII))
-}
-
-/// `check`, with its files and its options.
-fn check_command<'a>(alloc: Global, names: Names) -> Result<Command<'a>, AllocError>
-    ensures { IfOk result (λ command. app_of command ≡ check_app names) }
-{
-    let command = Ok(named(alloc, "check", help::CHECK, help::AFTER_CHECK));
-    let command = with_argument(command, files(alloc, "FILE", help::FILES));
-    let command = with_heading(command, OUTPUT);
-    let command = with_argument(command, flag(alloc, "print", help::PRINT));
-    let command = with_argument(command, flag(alloc, "calls", help::CALLS));
-    let command = with_heading(command, RUN);
-    let schedule = list_option(alloc, "schedule", "S", help::CHECK_SCHEDULE);
-    let command = with_argument(command, lettered(schedule, 's'));
-    let command = with_argument(command, list_option(alloc, "place", "LIST", help::PLACE));
-    let command = with_heading(command, KCSAN);
-    let slots = number_option(alloc, "slots", help::SLOTS, SLOTS, "64");
-    let command = with_argument(command, slots);
-    with_argument(command, word_option(alloc, names))
-}
-
-/// The files that a command is about, where it may be about none.
-fn files<'a>(alloc: Global, name: &'a str, help: Help) -> Arg<'a>
-    ensures { IsArg (words_rule name.entry.now) result }
-{
-    explained(Arg::new(alloc, name), help).action(ArgAction::Append)
-}
-
-/// The files that a command is about, of which there is one at least.
-fn some_files<'a>(alloc: Global, name: &'a str, help: Help) -> Arg<'a>
-    ensures { IsArg (some_words_rule name.entry.now) result }
-{
-    explained(Arg::new(alloc, name), help)
-        .required(true)
-        .action(ArgAction::Append)
-}
-
-/// The file that a command is about.
-fn file<'a>(alloc: Global, name: &'a str, help: Help) -> Arg<'a>
-    ensures { IsArg (word_rule name.entry.now) result }
-{
-    explained(Arg::new(alloc, name), help)
-        .required(true)
-        .action(ArgAction::Set)
+    // By calls: where `?` drops a command, the proof follows the drop of all that is in it.
+    let Ok(subcommand) = subcommand else {
+        drop(command);
+        return Err(AllocError);
+    };
+    let Ok(command) = command else {
+        drop(subcommand);
+        return Err(AllocError);
+    };
+    command.subcommand(subcommand)
 }
 
 /// `step`, with its file and its options.
@@ -221,11 +428,8 @@ fn step_command<'a>(alloc: Global, names: Names) -> Result<Command<'a>, AllocErr
     ensures { IfOk result (λ command. app_of command ≡ step_app names) }
 {
     let command = Ok(named(alloc, "step", help::STEP, help::AFTER_STEP));
-    let command = with_argument(command, file(alloc, "FILE", help::FILE));
-    let command = with_heading(command, RUN);
-    let schedule = list_option(alloc, "schedule", "S", help::SCHEDULE);
-    let command = with_argument(command, lettered(schedule, 's'));
-    with_shared(alloc, command, names)
+    let command = with_entries(alloc, command, &STEP_ENTRIES, names);
+    with_options(alloc, command, names)
 }
 
 /// `run`, with its file and its options.
@@ -233,17 +437,8 @@ fn run_command<'a>(alloc: Global, names: Names) -> Result<Command<'a>, AllocErro
     ensures { IfOk result (λ command. app_of command ≡ run_app names) }
 {
     let command = Ok(named(alloc, "run", help::RUN, help::AFTER_RUN));
-    let command = with_argument(command, file(alloc, "FILE", help::FILE));
-    let command = with_heading(command, RUN);
-    let runs = number_option(alloc, "runs", help::RUNS, RUNS, "100");
-    let command = with_argument(command, lettered(runs, 'r'));
-    let delay = number_option(alloc, "delay", help::DELAY, DELAY, "64");
-    let command = with_argument(command, delay);
-    let jobs = number_option(alloc, "jobs", help::JOBS, JOBS, "1");
-    let command = with_argument(command, jobs);
-    let command = with_argument(command, flag(alloc, "stop-at-first", help::STOP_AT_FIRST));
-    let command = with_argument(command, flag(alloc, "keep-going", help::KEEP_GOING));
-    with_shared(alloc, command, names)
+    let command = with_entries(alloc, command, &RUN_ENTRIES, names);
+    with_options(alloc, command, names)
 }
 
 /// `search`, with its files and its options.
@@ -251,21 +446,8 @@ fn search_command<'a>(alloc: Global, names: Names) -> Result<Command<'a>, AllocE
     ensures { IfOk result (λ command. app_of command ≡ search_app names) }
 {
     let command = Ok(named(alloc, "search", help::SEARCH, help::AFTER_SEARCH));
-    let command = with_argument(command, some_files(alloc, "FILE", help::FILES));
-    let command = with_heading(command, OUTPUT);
-    let format = format_option(alloc, names.search_formats, help::SEARCH_FORMAT);
-    let command = with_argument(command, format);
-    let command = with_argument(command, flag(alloc, "settings", help::SETTINGS));
-    let command = with_heading(command, SEARCH);
-    let switches = default_option(alloc, "switches", "N", help::SWITCHES, "2");
-    let command = with_argument(command, switches);
-    let limit = number_option(alloc, "limit", help::LIMIT, LIMIT, "1000000");
-    let command = with_argument(command, limit);
-    let seconds = free_number_option(alloc, "seconds", help::SECONDS, SECONDS);
-    let command = with_argument(command, seconds);
-    let jobs = number_option(alloc, "jobs", help::SEARCH_JOBS, JOBS, "1");
-    let command = with_argument(command, jobs);
-    with_shared(alloc, command, names)
+    let command = with_entries(alloc, command, &SEARCH_ENTRIES, names);
+    with_options(alloc, command, names)
 }
 
 /// `races`, with its files and its options.
@@ -273,39 +455,35 @@ fn races_command<'a>(alloc: Global, names: Names) -> Result<Command<'a>, AllocEr
     ensures { IfOk result (λ command. app_of command ≡ races_app names) }
 {
     let command = Ok(named(alloc, "races", help::RACES, help::AFTER_RACES));
-    let command = with_argument(command, some_files(alloc, "FILE", help::FILES));
-    let command = with_heading(command, OUTPUT);
-    let format = format_option(alloc, names.formats, help::FORMAT);
-    let command = with_argument(command, format);
-    let command = with_heading(command, SEARCH);
-    let limit = number_option(alloc, "limit", help::RACES_LIMIT, LIMIT, "1000000");
-    let command = with_argument(command, limit);
-    let seconds = free_number_option(alloc, "seconds", help::RACES_SECONDS, SECONDS);
-    let command = with_argument(command, seconds);
-    let jobs = number_option(alloc, "jobs", help::RACES_JOBS, JOBS, "1");
-    let command = with_argument(command, jobs);
+    let command = with_entries(alloc, command, &RACES_ENTRIES, names);
     with_settings(alloc, command, names)
 }
 
-/// A command with the options that `step`, `run` and `search` all have: those of the settings under the heading that
-/// the command is at. Want of memory is passed on.
-fn with_shared<'a>(
-    alloc: Global,
-    command: Result<Command<'a>, AllocError>,
-    names: Names,
-) -> Result<Command<'a>, AllocError>
-    ensures { (app : App) → IfOk command.entry (λ before. app_of before ≡ app)
-        → IfOk result (λ more. app_of more ≡ with_options app names) }
+/// `replay`, with its file.
+fn replay_command<'a>(alloc: Global, names: Names) -> Result<Command<'a>, AllocError>
+    ensures { IfOk result (λ command. app_of command ≡ replay_app) }
 {
-    let command = with_settings(alloc, command, names);
-    let command = with_heading(command, OUTPUT);
-    let command = with_argument(command, flag(alloc, "where", help::WHERE));
-    let trace = lettered(text_option(alloc, "trace", "PATH", help::TRACE), 'o');
-    with_argument(command, trace)
+    let command = Ok(named(alloc, "replay", help::REPLAY, help::AFTER_REPLAY));
+    with_entries(alloc, command, &REPLAY_ENTRIES, names)
 }
 
-/// A command with those of these options that `races` has behind its own: the places and what a wait takes, under the
-/// heading that the command is at, and KCSAN's settings. Want of memory is passed on.
+/// `show`, with its file and its options.
+fn show_command<'a>(alloc: Global, names: Names) -> Result<Command<'a>, AllocError>
+    ensures { IfOk result (λ command. app_of command ≡ show_app) }
+{
+    let command = Ok(named(alloc, "show", help::SHOW, help::AFTER_SHOW));
+    with_entries(alloc, command, &SHOW_ENTRIES, names)
+}
+
+/// `check`, with its files and its options.
+fn check_command<'a>(alloc: Global, names: Names) -> Result<Command<'a>, AllocError>
+    ensures { IfOk result (λ command. app_of command ≡ check_app names) }
+{
+    let command = Ok(named(alloc, "check", help::CHECK, help::AFTER_CHECK));
+    with_entries(alloc, command, &CHECK_ENTRIES, names)
+}
+
+/// A command with the settings of a run. Want of memory is passed on.
 fn with_settings<'a>(
     alloc: Global,
     command: Result<Command<'a>, AllocError>,
@@ -314,141 +492,18 @@ fn with_settings<'a>(
     ensures { (app : App) → IfOk command.entry (λ before. app_of before ≡ app)
         → IfOk result (λ more. app_of more ≡ with_settings app names) }
 {
-    let command = with_argument(command, list_option(alloc, "place", "LIST", help::PLACE));
-    let turns = number_option(alloc, "turns", help::TURNS, TURNS, "1000000");
-    let command = with_argument(command, turns);
-    let command = with_heading(command, KCSAN);
-    let slots = number_option(alloc, "slots", help::SLOTS, SLOTS, "64");
-    let command = with_argument(command, slots);
-    let skip = number_option(alloc, "skip", help::SKIP, SKIP, "0");
-    let command = with_argument(command, skip);
-    let command = with_argument(command, flag(alloc, "randomize", help::RANDOMIZE));
-    let seed = number_option(alloc, "seed", help::SEED, (0, u64::MAX), "1");
-    let command = with_argument(command, seed);
-    let changed = choice_option(alloc, "value-change-only", names, help::VALUE_CHANGE_ONLY);
-    let command = with_argument(command, changed);
-    let atomic = choice_option(
-        alloc,
-        "plain-writes-atomic",
-        names,
-        help::PLAIN_WRITES_ATOMIC,
-    );
-    let command = with_argument(command, atomic);
-    let command = with_argument(command, flag(alloc, "strict", help::STRICT));
-    let kconfig = text_option(alloc, "kconfig", "FILE", help::KCONFIG);
-    let command = with_argument(command, kconfig);
-    with_argument(command, word_option(alloc, names))
+    with_entries(alloc, command, &SETTINGS, names)
 }
 
-/// An argument with what help says of it.
-fn explained<'a>(argument: Arg<'a>, help: Help) -> Arg<'a>
-    ensures { result ≡ record argument.entry { help = Some help.brief; long_help = Some help.full } }
-{
-    argument.help(help.brief).long_help(help.full)
-}
-
-/// An option that also goes by a letter.
-fn lettered<'a>(option: Arg<'a>, letter: char) -> Arg<'a>
-    ensures { (rule : Rule) → IsArg rule option.entry → IsArg (record rule { short = Some letter }) result }
-{
-    option.short(letter)
-}
-
-/// An option that takes a text.
-fn text_option<'a>(alloc: Global, name: &'a str, value: &'a str, help: Help) -> Arg<'a>
-    ensures { IsArg (text_rule name.entry.now) result }
-{
-    explained(Arg::new(alloc, name), help)
-        .long(name)
-        .value_name(value)
-        .action(ArgAction::Set)
-}
-
-/// An option that takes a text, and has one where it isn't given.
-fn default_option<'a>(
+/// A command with these, and with the options that say what is written. Want of memory is passed on.
+fn with_options<'a>(
     alloc: Global,
-    name: &'a str,
-    value: &'a str,
-    help: Help,
-    default: &'a str,
-) -> Arg<'a>
-    ensures { IsArg (default_rule name.entry.now default.entry.now) result }
+    command: Result<Command<'a>, AllocError>,
+    names: Names,
+) -> Result<Command<'a>, AllocError>
+    ensures { (app : App) → IfOk command.entry (λ before. app_of before ≡ app)
+        → IfOk result (λ more. app_of more ≡ with_options app names) }
 {
-    text_option(alloc, name, value, help).default_value(default)
-}
-
-/// An option that takes a list, which is empty where it isn't given.
-fn list_option<'a>(alloc: Global, name: &'a str, value: &'a str, help: Help) -> Arg<'a>
-    ensures { IsArg (default_rule name.entry.now []) result }
-{
-    text_option(alloc, name, value, help)
-        .default_value("")
-        .hide_default_value(true)
-}
-
-/// `--word`, which takes one of its names.
-fn word_option(alloc: Global, names: Names) -> Arg<'static>
-    ensures { IsArg (name_rule (codes "word") names.sizes (codes "64")) result }
-{
-    name_option(alloc, "word", "BITS", names.sizes, help::WORD).default_value("64")
-}
-
-/// `--format`, which takes one of these names.
-fn format_option(alloc: Global, formats: &'static [&'static str], help: Help) -> Arg<'static>
-    ensures { IsArg (name_rule (codes "format") formats.entry (codes "text")) result }
-{
-    name_option(alloc, "format", "FORMAT", formats, help).default_value("text")
-}
-
-/// A setting of KCSAN that is on or off, if it is given.
-fn choice_option(alloc: Global, name: &'static str, names: Names, help: Help) -> Arg<'static>
-    ensures { IsArg (free_name_rule name.entry.now names.choices) result }
-{
-    name_option(alloc, name, "yes|no", names.choices, help)
-}
-
-/// An option that takes one of these names, if it is given. What help says of it has the names.
-fn name_option(
-    alloc: Global,
-    name: &'static str,
-    value: &'static str,
-    names: &'static [&'static str],
-    help: Help,
-) -> Arg<'static>
-    ensures { IsArg (free_name_rule name.entry.now names.entry) result }
-{
-    text_option(alloc, name, value, help)
-        .value_parser(names)
-        .hide_possible_values(true)
-}
-
-/// An option that takes a number within bounds.
-fn number_option<'a>(
-    alloc: Global,
-    name: &'a str,
-    help: Help,
-    bounds: (u64, u64),
-    default: &'a str,
-) -> Arg<'a>
-    ensures { IsArg (number_rule name.entry.now bounds.0 bounds.1 default.entry.now) result }
-{
-    text_option(alloc, name, "N", help)
-        .value_parser(ValueParser::Unsigned(bounds.0, bounds.1))
-        .default_value(default)
-}
-
-/// An option that takes a number within bounds, and has none where it isn't given.
-fn free_number_option<'a>(alloc: Global, name: &'a str, help: Help, bounds: (u64, u64)) -> Arg<'a>
-    ensures { IsArg (free_number_rule name.entry.now bounds.0 bounds.1) result }
-{
-    text_option(alloc, name, "N", help).value_parser(ValueParser::Unsigned(bounds.0, bounds.1))
-}
-
-/// An option that stands alone.
-fn flag<'a>(alloc: Global, name: &'a str, help: Help) -> Arg<'a>
-    ensures { IsArg (flag_rule name.entry.now) result }
-{
-    explained(Arg::new(alloc, name), help)
-        .long(name)
-        .action(ArgAction::SetTrue)
+    let command = with_settings(alloc, command, names);
+    with_entries(alloc, command, &OUTPUT_OPTIONS, names)
 }

@@ -1,9 +1,9 @@
 //! What the words ask for.
 
-ghost use Rattle.std.specs.Prelude.{◌≡◌, ◌≢◌, ◌↔◌, ◌≤◌, ◌<◌, ◌∷◌, ℕ, IfErr, IfOk, IfSome, IsSome, IsTrue, Option, Some, [], codes, false, length, map, true};
+ghost use Rattle.std.specs.Prelude.{◌≡◌, ◌↔◌, ◌≤◌, ◌<◌, ◌∷◌, ℕ, IfErr, IfOk, IfSome, IsSome, IsTrue, Option, Some, [], codes, false, length, map, true};
 ghost use Rattle.cli.specs.Bounds.{KeepsBounds, KeepsCheckBounds, KeepsPreemptions, KeepsRacesBounds, KeepsRunBounds, KeepsSearchBounds, KeepsSearchesBounds, MayBeAsked};
-ghost use Rattle.cli.specs.Words.{Ask, AskCheck, AskChoices, AskOptions, AskRaces, AskRun, AskSearch, AskSearches, AskSettings, AskShow, AskStep, AskSwitches};
-ghost use Rattle.cli.specs.Words.{IsAskedBy, IsAskedOf, IsFormat, IsGiven, IsLayout, IsNumber, IsNumberIfGiven, IsSearchFormat, MayFail, choice_of, words_of};
+ghost use Rattle.cli.specs.Words.{Ask, AskCheck, AskChoices, AskOptions, AskRaces, AskReplay, AskRun, AskSearch, AskSearches, AskSettings, AskShow, AskStep, AskSwitches};
+ghost use Rattle.cli.specs.Words.{IsAskedBy, IsAskedOf, IsFormat, IsGiven, IsLayout, IsNumber, IsNumberIfGiven, IsSearchFormat, MayBeSaid, MayFail, choice_of, words_of};
 ghost use Rattle.clap.specs.Words.{first_of, found_of, kind_of, rows_of, subcommand_rows_of};
 ghost use Rattle.std.specs.Option.{option_map};
 
@@ -15,7 +15,7 @@ use std::convert::AsStr;
 use watch_word::Layout;
 
 /// What the program is asked to do.
-#[derive(Debug, Drop, PartialEq, Eq)]
+#[derive(Debug, Drop)]
 pub enum Request<'a> {
     /// To step the program of a litmus file.
     Step(StepRequest<'a>),
@@ -38,14 +38,14 @@ pub enum Request<'a> {
 }
 
 /// What `replay` is asked to do.
-#[derive(Clone, Copy, Debug, PartialEq, Eq)]
+#[derive(Clone, Copy, Debug)]
 pub struct ReplayRequest<'a> {
     /// The name of the file that has the trace.
     pub trace: &'a str,
 }
 
 /// What `show` is asked to do.
-#[derive(Clone, Copy, Debug, PartialEq, Eq)]
+#[derive(Clone, Copy, Debug)]
 pub struct ShowRequest<'a> {
     /// The name of the file that has the trace.
     pub trace: &'a str,
@@ -56,7 +56,7 @@ pub struct ShowRequest<'a> {
 }
 
 /// What `step` is asked to do.
-#[derive(Clone, Copy, Debug, PartialEq, Eq)]
+#[derive(Clone, Copy, Debug)]
 pub struct StepRequest<'a> {
     /// The name of the litmus file.
     pub file: &'a str,
@@ -67,7 +67,7 @@ pub struct StepRequest<'a> {
 }
 
 /// What `run` is asked to do.
-#[derive(Clone, Copy, Debug, PartialEq, Eq)]
+#[derive(Clone, Copy, Debug)]
 pub struct RunRequest<'a> {
     /// The name of the litmus file.
     pub file: &'a str,
@@ -86,7 +86,7 @@ pub struct RunRequest<'a> {
 }
 
 /// How many preemptions a schedule that is searched may have.
-#[derive(Clone, Copy, Debug, PartialEq, Eq)]
+#[derive(Clone, Copy, Debug)]
 pub enum Switches {
     /// So often at most.
     AtMost(u64),
@@ -95,7 +95,7 @@ pub enum Switches {
 }
 
 /// What `search` is asked to do with one file, where what it finds is printed as text.
-#[derive(Clone, Copy, Debug, PartialEq, Eq)]
+#[derive(Clone, Copy, Debug)]
 pub struct SearchRequest<'a> {
     /// The name of the litmus file.
     pub file: &'a str,
@@ -115,7 +115,7 @@ pub struct SearchRequest<'a> {
 }
 
 /// How what a search finds is printed.
-#[derive(Clone, Copy, Debug, PartialEq, Eq)]
+#[derive(Clone, Copy, Debug)]
 pub enum SearchFormat {
     /// As text.
     Text,
@@ -128,7 +128,7 @@ pub enum SearchFormat {
 }
 
 /// What `search` is asked to do with several files, or in a format for programs.
-#[derive(Debug, Drop, PartialEq, Eq)]
+#[derive(Debug, Drop)]
 pub struct SearchesRequest<'a> {
     /// The names of the litmus files: one at least, and two at least where what is found is printed as text.
     pub files: Vec<&'a str>,
@@ -149,7 +149,7 @@ pub struct SearchesRequest<'a> {
 }
 
 /// How races are printed.
-#[derive(Clone, Copy, Debug, PartialEq, Eq)]
+#[derive(Clone, Copy, Debug)]
 pub enum RacesFormat {
     /// As text.
     Text,
@@ -158,7 +158,7 @@ pub enum RacesFormat {
 }
 
 /// What `races` is asked to do.
-#[derive(Debug, Drop, PartialEq, Eq)]
+#[derive(Debug, Drop)]
 pub struct RacesRequest<'a> {
     /// The names of the litmus files: one at least.
     pub files: Vec<&'a str>,
@@ -175,7 +175,7 @@ pub struct RacesRequest<'a> {
 }
 
 /// What `check` is asked to do.
-#[derive(Debug, Drop, PartialEq, Eq)]
+#[derive(Debug, Drop)]
 pub struct CheckRequest<'a> {
     /// The names of the litmus files: one at least.
     pub files: Vec<&'a str>,
@@ -192,7 +192,7 @@ pub struct CheckRequest<'a> {
 }
 
 /// The options that `step`, `run` and `search` all have, and `races` all but the trace.
-#[derive(Clone, Copy, Debug, PartialEq, Eq)]
+#[derive(Clone, Copy, Debug)]
 pub struct RunOptions<'a> {
     /// The text of the place list.
     pub places: &'a str,
@@ -226,11 +226,25 @@ pub fn asked<'a, S: AsStr>(alloc: Global, words: &'a [S]) -> Result<Request<'a>,
     ensures fails { IfErr result (λ error. MayFail (map S.text words.entry.now) (kind_of error)) }
 {
     let matches = program(alloc)?.try_get_matches_from(words)?;
-    let request = request_of(alloc, &matches)?;
-    if let Some(request) = request {
-        return Ok(request);
+    let outcome = request_or_refusal(alloc, &matches);
+    // By a call: where it goes out of scope, the proof follows the drop of all that is in it.
+    drop(matches);
+    outcome
+}
+
+/// What is asked, by the values of the words, or what is said where these ask for nothing.
+fn request_or_refusal<'a>(
+    alloc: Global,
+    matches: &ArgMatches<'a>,
+) -> Result<Request<'a>, clap::Error>
+    ensures bounds { IfOk result MayBeAsked }
+    ensures asked { IfOk result (IsAskedOf (subcommand_rows_of matches.now)) }
+    ensures fails { IfErr result (λ error. MayBeSaid (subcommand_rows_of matches.now) (kind_of error)) }
+{
+    match request_of(alloc, matches)? {
+        Some(request) => Ok(request),
+        None => Err(refused(alloc, matches)?),
     }
-    Err(refused(alloc, &matches)?)
 }
 
 /// What is said where a command's own rules let words through, and yet they ask for nothing.
@@ -238,41 +252,59 @@ fn refused(alloc: Global, matches: &ArgMatches<'_>) -> Result<clap::Error, Alloc
     ensures { IfOk result (λ error. kind_of error ≡ ErrorKind.ValueValidation) }
 {
     match matches.subcommand() {
-        Some(("check", _)) => {
-            let files_or_calls = "'check' takes one FILE or more, or --calls and no FILE";
-            program(alloc)?.error(ErrorKind::ValueValidation, files_or_calls)
-        }
         Some(("search", values)) => search_refused(alloc, values),
-        Some((_, values)) => settings_refused(alloc, values),
-        None => program(alloc)?.error(ErrorKind::ValueValidation, "no command"),
+        Some((name, values)) => said(alloc, fault(name, values)),
+        None => said(alloc, "no command"),
+    }
+}
+
+/// This is said of the words.
+fn said(alloc: Global, why: &str) -> Result<clap::Error, AllocError>
+    ensures { IfOk result (λ error. kind_of error ≡ ErrorKind.ValueValidation) }
+{
+    let mut program = program(alloc)?;
+    let error = program.error(ErrorKind::ValueValidation, why);
+    // By a call: where it goes out of scope, the proof follows the drop of all that is in it.
+    drop(program);
+    error
+}
+
+/// What the fault is where the values of another command than `search` ask for nothing.
+fn fault(name: &str, values: &ArgMatches<'_>) -> &'static str {
+    if name == "check" {
+        "'check' takes one FILE or more, or --calls and no FILE"
+    } else {
+        settings_fault(values)
+    }
+}
+
+/// What the fault is of settings that ask for nothing.
+fn settings_fault(values: &ArgMatches<'_>) -> &'static str {
+    if values.get_str("kconfig").is_some() {
+        "'--kconfig' has to be replaced by the options that it stands for"
+    } else {
+        "'--strict' cannot be used with '--value-change-only' or '--plain-writes-atomic'"
     }
 }
 
 /// What is said of the values of `search` where they ask for nothing: of that of `--switches`, if it asks for nothing,
-/// or else of the settings, if these do, or else of `--trace`, the only other one that can be at fault.
+/// or else of the others.
 fn search_refused(alloc: Global, search: &ArgMatches<'_>) -> Result<clap::Error, AllocError>
     ensures { IfOk result (λ error. kind_of error ≡ ErrorKind.ValueValidation) }
 {
-    if switches_asked(search).is_none() {
-        return switches_refused(alloc, search);
+    match switches_asked(search) {
+        None => switches_refused(alloc, search),
+        Some(_) => said(alloc, search_fault(search)),
     }
-    if settings(search, None).is_none() {
-        return settings_refused(alloc, search);
-    }
-    let one_as_text = "'--trace' goes with one FILE and '--format text'";
-    program(alloc)?.error(ErrorKind::ValueValidation, one_as_text)
 }
 
-/// What is said of settings that ask for nothing.
-fn settings_refused(alloc: Global, values: &ArgMatches<'_>) -> Result<clap::Error, AllocError>
-    ensures { IfOk result (λ error. kind_of error ≡ ErrorKind.ValueValidation) }
-{
-    let why = if values.get_str("kconfig").is_some() {
-        "'--kconfig' has to be replaced by the options that it stands for"
-    } else {
-        "'--strict' cannot be used with '--value-change-only' or '--plain-writes-atomic'"
-    };
-    program(alloc)?.error(ErrorKind::ValueValidation, why)
+/// What the fault is of the values of `search` but for that of `--switches` where they ask for nothing: the settings, if
+/// these do, or else `--trace`, the only other one that can be at fault.
+fn search_fault(search: &ArgMatches<'_>) -> &'static str {
+    match settings(search, None) {
+        None => settings_fault(search),
+        Some(_) => "'--trace' goes with one FILE and '--format text'",
+    }
 }
 
 /// What is said of a value of `--switches` that asks for nothing.
@@ -283,7 +315,7 @@ fn switches_refused(alloc: Global, search: &ArgMatches<'_>) -> Result<clap::Erro
     let why = format!(in alloc;
         "invalid value '{value}' for '--switches <N>': not all, and no number in 0..=64"
     )?;
-    program(alloc)?.error(ErrorKind::ValueValidation, why.as_str())
+    said(alloc, why.as_str())
 }
 
 /// What is asked, by the values of the words.
@@ -297,30 +329,31 @@ fn request_of<'a>(
         → IfOk result IsSome }
 {
     match matches.subcommand() {
-        Some(("check", values)) => check_asked(alloc, values),
-        Some(("races", values)) => races_asked(alloc, values),
-        Some(("search", values)) => search_asked(alloc, values),
-        Some((name, values)) => Ok(run_or_trace(name, values)),
+        Some((name, values)) => called(alloc, name, values),
         None => Ok(None),
     }
 }
 
-/// What a command of this name is asked to do, by its values: one that runs a litmus file or reads a trace. `search`,
-/// `races` and `check`, which take several files, are not among these.
-fn run_or_trace<'a>(name: &str, values: &ArgMatches<'a>) -> Option<Request<'a>>
-    ensures bounds { IfSome result MayBeAsked }
-    ensures asked { IfSome result (IsAskedBy name.now (rows_of (found_of values.now))) }
+/// What a command of this name is asked to do, by its values.
+fn called<'a>(
+    alloc: Global,
+    name: &str,
+    values: &ArgMatches<'a>,
+) -> Result<Option<Request<'a>>, AllocError>
+    ensures bounds { IfOk result (λ request. IfSome request MayBeAsked) }
+    ensures asked { IfOk result (λ request. IfSome request (IsAskedBy name.now (rows_of (found_of values.now)))) }
     ensures complete { (request : Request) → MayBeAsked request → IsAskedBy name.now (rows_of (found_of values.now)) request
-        → name.now ≢ codes "check" → name.now ≢ codes "races" → name.now ≢ codes "search" → IsSome result }
+        → IfOk result IsSome }
 {
     match name {
-        "step" => Some(Request::Step(step_request(values)?)),
-        "run" => Some(Request::Run(run_request(values)?)),
-        "replay" => Some(Request::Replay(ReplayRequest {
-            trace: values.get_str("TRACE")?,
-        })),
-        "show" => Some(Request::Show(show_request(values)?)),
-        _ => None,
+        "step" => Ok(step_request(values)),
+        "run" => Ok(run_request(values)),
+        "search" => search_asked(alloc, values),
+        "races" => races_asked(alloc, values),
+        "replay" => Ok(replay_request(values)),
+        "show" => Ok(show_request(values)),
+        "check" => check_asked(alloc, values),
+        _ => Ok(None),
     }
 }
 
@@ -426,26 +459,26 @@ fn has_value(matches: &ArgMatches<'_>, option: &str, word: &str) -> bool
 }
 
 /// What `step` is asked to do, by the values of its options.
-fn step_request<'a>(step: &ArgMatches<'a>) -> Option<StepRequest<'a>>
-    ensures bounds { IfSome result (λ request. KeepsBounds request.options) }
-    ensures asked { IfSome result (AskStep (rows_of (found_of step.now))) }
+fn step_request<'a>(step: &ArgMatches<'a>) -> Option<Request<'a>>
+    ensures bounds { IfSome result MayBeAsked }
+    ensures asked { IfSome result (IsAskedBy (codes "step") (rows_of (found_of step.now))) }
     ensures complete { (request : StepRequest) → KeepsBounds request.options → AskStep (rows_of (found_of step.now)) request
         → IsSome result }
 {
-    Some(StepRequest {
+    Some(Request::Step(StepRequest {
         file: step.get_str("FILE")?,
         schedule: step.get_str("schedule")?,
         options: options(step)?,
-    })
+    }))
 }
 
 /// What `run` is asked to do, by the values of its options.
-fn run_request<'a>(run: &ArgMatches<'a>) -> Option<RunRequest<'a>>
-    ensures bounds { IfSome result KeepsRunBounds }
-    ensures asked { IfSome result (AskRun (rows_of (found_of run.now))) }
+fn run_request<'a>(run: &ArgMatches<'a>) -> Option<Request<'a>>
+    ensures bounds { IfSome result MayBeAsked }
+    ensures asked { IfSome result (IsAskedBy (codes "run") (rows_of (found_of run.now))) }
     ensures complete { (request : RunRequest) → KeepsRunBounds request → AskRun (rows_of (found_of run.now)) request → IsSome result }
 {
-    Some(RunRequest {
+    Some(Request::Run(RunRequest {
         file: run.get_str("FILE")?,
         runs: number(run, "runs", RUNS)?,
         delay: number(run, "delay", DELAY)?,
@@ -453,7 +486,7 @@ fn run_request<'a>(run: &ArgMatches<'a>) -> Option<RunRequest<'a>>
         stop_at_first: run.get_flag("stop-at-first"),
         keep_going: run.get_flag("keep-going"),
         options: options(run)?,
-    })
+    }))
 }
 
 /// What `search` is asked to do, by the values of its options.
@@ -542,16 +575,28 @@ fn switches_asked(search: &ArgMatches<'_>) -> Option<Switches>
     Some(Switches::AtMost(number(search, "switches", AT_MOST)?))
 }
 
+/// What `replay` is asked to do, by its file.
+fn replay_request<'a>(replay: &ArgMatches<'a>) -> Option<Request<'a>>
+    ensures bounds { IfSome result MayBeAsked }
+    ensures asked { IfSome result (IsAskedBy (codes "replay") (rows_of (found_of replay.now))) }
+    ensures complete { (request : ReplayRequest) → AskReplay (rows_of (found_of replay.now)) request → IsSome result }
+{
+    Some(Request::Replay(ReplayRequest {
+        trace: replay.get_str("TRACE")?,
+    }))
+}
+
 /// What `show` is asked to do, by the values of its options.
-fn show_request<'a>(show: &ArgMatches<'a>) -> Option<ShowRequest<'a>>
-    ensures asked { IfSome result (AskShow (rows_of (found_of show.now))) }
+fn show_request<'a>(show: &ArgMatches<'a>) -> Option<Request<'a>>
+    ensures bounds { IfSome result MayBeAsked }
+    ensures asked { IfSome result (IsAskedBy (codes "show") (rows_of (found_of show.now))) }
     ensures complete { (request : ShowRequest) → AskShow (rows_of (found_of show.now)) request → IsSome result }
 {
-    Some(ShowRequest {
+    Some(Request::Show(ShowRequest {
         trace: show.get_str("TRACE")?,
         svg: show.get_str("svg"),
         ascii: show.get_flag("ascii"),
-    })
+    }))
 }
 
 /// The options that `step`, `run` and `search` all have, by their values.

@@ -2,9 +2,11 @@
 use Rattle.std.proofs.Common.{◌∙◌, ap, refl, true}
 use Rattle.std.proofs.lemmas.Result.{IfOk-weaker}
 use Rattle.clap.specs.Simple.{app_of_fields, on_top}
+use Rattle.cli.specs.Words.{check_app, program_app, races_app, replay_app, run_app, search_app, show_app, step_app, with_options, with_settings}
 use Rattle.cli.proofs.program.program.Goals as goal
 
 pub returns : goal.returns
+unfolding program_app step_app with_options with_settings run_app search_app races_app replay_app show_app check_app
 returns c =
     let first = ap app_of_fields c.subcommand_required.ensures
     ∙ ap (on_top (λ shape. record shape { subcommand_required = true }))

@@ -1,13 +1,8 @@
--- each argument adds its rule
+-- the entries of its table add its rules
+use Rattle.cli.specs.Tables.{with_entries}
+use Rattle.cli.specs.Words.{races_app}
 use Rattle.cli.proofs.program.races_command.Goals as goal
 
 pub returns : goal.returns
-returns c =
-    let e1 = c.with_argument-command.ensures _ _ c.named.ensures c.some_files.ensures in
-    let e2 = c.with_heading-command.ensures _ e1 in
-    let e3 = c.with_argument-command-2.ensures _ _ e2 c.format_option-format.ensures in
-    let e4 = c.with_heading-command-2.ensures _ e3 in
-    let e5 = c.with_argument-command-3.ensures _ _ e4 c.number_option-limit.ensures in
-    let e6 = c.with_argument-command-4.ensures _ _ e5 c.free_number_option-seconds.ensures in
-    let e7 = c.with_argument-command-5.ensures _ _ e6 c.number_option-jobs.ensures in
-    c.with_settings.ensures _ e7
+unfolding with_entries races_app
+returns c = c.with_settings.ensures _ (c.with_entries-command.ensures _ c.named.ensures)

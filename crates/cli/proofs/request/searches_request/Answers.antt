@@ -1,40 +1,90 @@
 -- each value is that of its option
-use Rattle.std.proofs.Common.{◌≡◌, ◌∙◌, codes, false, is_some, refl, sym, true}
-use Rattle.clap.specs.Words.{found_of}
+use Rattle.std.proofs.Common.{◌≡◌, ◌∙◌, codes, is_some, refl, sym, true}
+use Rattle.clap.specs.Words.{found_of, rows_of}
 use Rattle.cli.proofs.SearchLemmas.{not_unread, unread}
-use Rattle.cli.proofs.ValueLemmas.{flag_read, not_missing}
+use Rattle.cli.proofs.ValueLemmas.{flag_read, none_holds, not_missing}
+use Rattle.cli.specs.Bounds.{MayBeAsked}
+use Rattle.cli.specs.Words.{IsAskedBy}
 use Rattle.cli.proofs.request.searches_request.Goals as goal
 
-pub returns-clause-asked : goal.returns-clause-asked
-returns-clause-asked c =
-    let none : is_some c.get_str.result ≡ false = sym c.is_some.ensures ∙ c.if-is_some.false in (
-      refl,
-      record {
-        files = c.requires.files;
-        switches = c.in_ok-switches_asked.ensures.asked;
-        limit = c.in_ok-number.ensures.asked;
-        seconds = c.in_ok-number_if_given.ensures.asked;
-        jobs = c.in_ok-number-2.ensures.asked;
-        format = c.requires.format;
-        settings_line = flag_read (found_of c.args.search.now) (codes "settings") c.get_flag.result c.get_flag.ensures.none
-            c.get_flag.ensures.value c.get_flag.ensures.other;
-        settings = c.in_ok-settings.ensures.asked;
-        trace = unread (found_of c.args.search.now) (codes "trace") c.get_str.result c.get_str.ensures none;
-        untraced = c.in_ok-settings.ensures.trace;
-      },
-    )
+pub returns : goal.returns
+returns c = record {
+  bounds = record {
+    some = c.requires.some;
+    several = c.requires.several;
+    switches = c.in_ok-switches_asked.ensures.bounds;
+    limit = c.in_ok-number.ensures.within.0;
+    limit_to = c.in_ok-number.ensures.within.1;
+    seconds = c.in_ok-number_if_given.ensures.within;
+    jobs = c.in_ok-number-2.ensures.within.0;
+    jobs_to = c.in_ok-number-2.ensures.within.1;
+    options = c.in_ok-settings.ensures.bounds;
+  };
+  asked = (
+    refl,
+    record {
+      files = c.requires.files;
+      switches = c.in_ok-switches_asked.ensures.asked;
+      limit = c.in_ok-number.ensures.asked;
+      seconds = c.in_ok-number_if_given.ensures.asked;
+      jobs = c.in_ok-number-2.ensures.asked;
+      format = c.requires.format;
+      settings_line = flag_read (found_of c.args.search.now) (codes "settings") c.get_flag.result c.get_flag.ensures.none c.get_flag.ensures.value
+          c.get_flag.ensures.other;
+      settings = c.in_ok-settings.ensures.asked;
+      trace = unread (found_of c.args.search.now) (codes "trace") c.get_str.result c.get_str.ensures
+          (sym c.is_some.ensures ∙ c.if-is_some.false);
+      untraced = c.in_ok-settings.ensures.trace;
+    },
+  );
+  complete = λ request bounds asks. refl;
+}
 
-pub returns-then-is_some-clause-complete : goal.returns-then-is_some-clause-complete
-returns-then-is_some-clause-complete c = λ request bounds asks.
-    let some : is_some c.get_str.result ≡ true = sym c.is_some.ensures ∙ c.if-is_some.true in
-    absurd (not_unread (found_of c.args.search.now) (codes "trace") c.get_str.result c.get_str.ensures some asks.trace)
+pub returns-then-is_some : goal.returns-then-is_some
+returns-then-is_some c = record {
+  bounds = tt;
+  asked = tt;
+  complete = λ request bounds asks.
+      let some : is_some c.get_str.result ≡ true = sym c.is_some.ensures ∙ c.if-is_some.true in
+      absurd (not_unread (found_of c.args.search.now) (codes "trace") c.get_str.result c.get_str.ensures some asks.trace);
+}
 
-pub returns-in_err-number-clause-complete : goal.returns-in_err-number-clause-complete
-returns-in_err-number-clause-complete c = λ request bounds asks.
-    absurd (not_missing c.number.result (c.number.ensures.complete request.limit bounds.limit bounds.limit_to asks.limit)
-    c.in_err-number.was)
+pub returns-in_err-switches_asked : goal.returns-in_err-switches_asked
+returns-in_err-switches_asked c = record {
+  bounds = none_holds MayBeAsked c.from_residual.result c.from_residual.ensures;
+  asked = none_holds (IsAskedBy (codes "search") (rows_of (found_of c.args.search.now))) c.from_residual.result c.from_residual.ensures;
+  complete = λ request bounds asks.
+      absurd (not_missing c.switches_asked.result (c.switches_asked.ensures.complete request.switches bounds.switches asks.switches) c.in_err-switches_asked.was);
+}
 
-pub returns-in_err-number-2-clause-complete : goal.returns-in_err-number-2-clause-complete
-returns-in_err-number-2-clause-complete c = λ request bounds asks.
-    absurd (not_missing c.number-2.result (c.number-2.ensures.complete request.jobs bounds.jobs bounds.jobs_to asks.jobs)
-    c.in_err-number-2.was)
+pub returns-in_err-number : goal.returns-in_err-number
+returns-in_err-number c = record {
+  bounds = none_holds MayBeAsked c.from_residual-in_err-number.result c.from_residual-in_err-number.ensures;
+  asked = none_holds (IsAskedBy (codes "search") (rows_of (found_of c.args.search.now))) c.from_residual-in_err-number.result c.from_residual-in_err-number.ensures;
+  complete = λ request bounds asks.
+      absurd (not_missing c.number.result (c.number.ensures.complete request.limit bounds.limit bounds.limit_to asks.limit) c.in_err-number.was);
+}
+
+pub returns-in_err-number_if_given : goal.returns-in_err-number_if_given
+returns-in_err-number_if_given c = record {
+  bounds = none_holds MayBeAsked c.from_residual-in_err-number_if_given.result c.from_residual-in_err-number_if_given.ensures;
+  asked = none_holds (IsAskedBy (codes "search") (rows_of (found_of c.args.search.now))) c.from_residual-in_err-number_if_given.result c.from_residual-in_err-number_if_given.ensures;
+  complete = λ request bounds asks.
+      absurd (not_missing c.number_if_given.result (c.number_if_given.ensures.complete request.seconds bounds.seconds asks.seconds) c.in_err-number_if_given.was);
+}
+
+pub returns-in_err-number-2 : goal.returns-in_err-number-2
+returns-in_err-number-2 c = record {
+  bounds = none_holds MayBeAsked c.from_residual-in_err-number-2.result c.from_residual-in_err-number-2.ensures;
+  asked = none_holds (IsAskedBy (codes "search") (rows_of (found_of c.args.search.now))) c.from_residual-in_err-number-2.result c.from_residual-in_err-number-2.ensures;
+  complete = λ request bounds asks.
+      absurd (not_missing c.number-2.result (c.number-2.ensures.complete request.jobs bounds.jobs bounds.jobs_to asks.jobs) c.in_err-number-2.was);
+}
+
+pub returns-in_err-settings : goal.returns-in_err-settings
+returns-in_err-settings c = record {
+  bounds = none_holds MayBeAsked c.from_residual-in_err-settings.result c.from_residual-in_err-settings.ensures;
+  asked = none_holds (IsAskedBy (codes "search") (rows_of (found_of c.args.search.now))) c.from_residual-in_err-settings.result c.from_residual-in_err-settings.ensures;
+  complete = λ request bounds asks.
+      absurd (not_missing c.settings.result (c.settings.ensures.complete request.options bounds.options asks.settings) c.in_err-settings.was);
+}

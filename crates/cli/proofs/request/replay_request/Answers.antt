@@ -1,0 +1,22 @@
+-- each value is that of its option
+use Rattle.std.proofs.Common.{codes, refl}
+use Rattle.clap.specs.Words.{found_of, rows_of}
+use Rattle.cli.proofs.ValueLemmas.{none_holds, some_read, text_there}
+use Rattle.cli.specs.Bounds.{MayBeAsked}
+use Rattle.cli.specs.Words.{IsAskedBy}
+use Rattle.cli.proofs.request.replay_request.Goals as goal
+
+pub returns : goal.returns
+returns c = record {
+  bounds = tt;
+  asked = (refl, some_read (found_of c.args.replay.now) (codes "TRACE") c.get_str.result _ c.get_str.ensures c.in_ok-get_str.was);
+  complete = λ request asks. refl;
+}
+
+pub returns-in_err-get_str : goal.returns-in_err-get_str
+returns-in_err-get_str c = record {
+  bounds = none_holds MayBeAsked c.from_residual.result c.from_residual.ensures;
+  asked = none_holds (IsAskedBy (codes "replay") (rows_of (found_of c.args.replay.now))) c.from_residual.result c.from_residual.ensures;
+  complete = λ request asks.
+      absurd (text_there (found_of c.args.replay.now) (codes "TRACE") c.get_str.result request.trace.now c.get_str.ensures asks c.in_err-get_str.was);
+}
