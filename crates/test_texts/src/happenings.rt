@@ -1,6 +1,6 @@
 //! What a task does, shown one happening a line.
 
-use access_types::{Access, Bytes, Happening};
+use access_types::{Access, Bytes, Happening, Mark};
 use std::alloc::AllocError;
 use std::fmt::Write;
 
@@ -30,8 +30,22 @@ fn show_happening(shown: &mut String, happening: Happening) -> Result<(), AllocE
         Happening::Write(bytes, value) => show_value(shown, "write", bytes, value),
         Happening::Lock(lock) => writeln!(shown, "lock {lock}"),
         Happening::Unlock(lock) => writeln!(shown, "unlock {lock}"),
-        Happening::Mark(mark) => writeln!(shown, "mark {mark:?}"),
+        Happening::Mark(mark) => show_mark(shown, mark),
     }
+}
+
+/// Shows a KCSAN call between accesses.
+fn show_mark(shown: &mut String, mark: Mark) -> Result<(), AllocError> {
+    let name = match mark {
+        Mark::Disable => "Disable",
+        Mark::Enable => "Enable",
+        Mark::NestOpen => "NestOpen",
+        Mark::NestClose => "NestClose",
+        Mark::FlatBegin => "FlatBegin",
+        Mark::FlatEnd => "FlatEnd",
+        Mark::Next(count) => return writeln!(shown, "mark Next({count})"),
+    };
+    writeln!(shown, "mark {name}")
 }
 
 /// Shows an access: its task, site and repetition, its kind, its bytes, and its mask, where it has one.
