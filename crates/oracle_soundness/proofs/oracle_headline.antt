@@ -1,3 +1,4 @@
 pub mod EndedTakings
 pub mod Pairs
 pub mod Tellings
+pub mod Sums

@@ -6,11 +6,12 @@ ghost use Rattle.access_types.specs.History.{History, beginning};
 ghost use Rattle.access_types.specs.Marked.{CountedAsMarked, CountsAfter, EndsRaised, IsFlatOpen};
 ghost use Rattle.access_types.specs.Marked.{IsWithinNext, Silenced, begins_countable};
 ghost use Rattle.access_types.specs.Marked.{is_atomic_write, is_countable, is_disable, is_enable};
-ghost use Rattle.access_types.specs.Marked.{is_flat, is_nest_close, is_nest_open, is_next};
+ghost use Rattle.access_types.specs.Marked.{is_flat, is_next};
 ghost use Rattle.access_types.specs.Marked.{marks_of, next_mark};
 ghost use Rattle.access_types.specs.declared.history.Happening.TheVariants as happenings;
 ghost use Rattle.access_types.specs.declared.history.Mark.{Mark};
 ghost use Rattle.access_types.specs.declared.history.Mark.TheVariants.{FlatBegin, Next};
+ghost use Rattle.oracle_soundness.specs.oracle_definitions.Kinds.{is_of};
 
 use crate::oracle_definitions::moments::begin;
 use access_types::{Access, Happening, Kind, Mark, Moment, Operation};
@@ -43,72 +44,62 @@ fn marks_of(alloc: Global, history: &[Moment], task: u32) -> Result<Vec<Mark>, A
     Ok(marks)
 }
 
-/// How many disables there are.
-fn disables(marks: &[Mark]) -> usize
-    ensures { result ≡ count_by is_disable marks.now }
-{
-    let disables = marks.iter().filter(|mark| matches!(**mark, Mark::Disable));
-    disables.count()
+/// The kinds of marks that are counted.
+#[derive(Clone, Copy)]
+pub enum MarkKind {
+    /// It turns reporting off.
+    Disable,
+    /// It turns it on again.
+    Enable,
+    /// It begins a nestable atomic region.
+    NestOpen,
+    /// It ends one.
+    NestClose,
+    /// It begins or ends the flat atomic region.
+    Flat,
+    /// It says how many of the next accesses count as marked.
+    Next,
 }
 
-/// How many enables there are.
-fn enables(marks: &[Mark]) -> usize
-    ensures { result ≡ count_by is_enable marks.now }
+/// The mark is of the kind.
+fn is_of(mark: Mark, kind: MarkKind) -> bool
+    ensures { result ≡ is_of kind mark }
 {
-    let enables = marks.iter().filter(|mark| matches!(**mark, Mark::Enable));
-    enables.count()
+    match kind {
+        MarkKind::Disable => matches!(mark, Mark::Disable),
+        MarkKind::Enable => matches!(mark, Mark::Enable),
+        MarkKind::NestOpen => matches!(mark, Mark::NestOpen),
+        MarkKind::NestClose => matches!(mark, Mark::NestClose),
+        MarkKind::Flat => matches!(mark, Mark::FlatBegin | Mark::FlatEnd),
+        MarkKind::Next => matches!(mark, Mark::Next(_)),
+    }
 }
 
-/// Some ending part has more disables than enables.
-fn is_disabled(marks: &[Mark]) -> bool
-    ensures { IsTrue result ↔ EndsRaised is_disable is_enable marks.now }
+/// How many marks of the kind there are.
+#[tactic(auto, using(std::proofs::lemmas::List::Sums::count_by_more_yes, std::proofs::lemmas::List::Sums::count_by_more_no))]
+fn count_marks(marks: &[Mark], kind: MarkKind) -> usize
+    ensures { result ≡ count_by (is_of kind) marks.now }
+{
+    let mut count = 0;
+    for mark in marks {
+        if is_of(*mark, kind) {
+            count += 1;
+        }
+    }
+    count
+}
+
+/// Some ending part has more of the one kind than of the other.
+fn ends_raised(marks: &[Mark], raises: MarkKind, lowers: MarkKind) -> bool
+    ensures { IsTrue result ↔ EndsRaised (is_of raises) (is_of lowers) marks.now }
 {
     for from in 0..marks.len() {
         let end = &marks[from..];
-        if enables(end) < disables(end) {
+        if count_marks(end, lowers) < count_marks(end, raises) {
             return true;
         }
     }
     false
-}
-
-/// How many opens of a nest there are.
-fn opens(marks: &[Mark]) -> usize
-    ensures { result ≡ count_by is_nest_open marks.now }
-{
-    let opens = marks.iter().filter(|mark| matches!(**mark, Mark::NestOpen));
-    opens.count()
-}
-
-/// How many closes of a nest there are.
-fn closes(marks: &[Mark]) -> usize
-    ensures { result ≡ count_by is_nest_close marks.now }
-{
-    let closes = marks
-        .iter()
-        .filter(|mark| matches!(**mark, Mark::NestClose));
-    closes.count()
-}
-
-/// Some ending part has more opens of a nest than closes.
-fn is_in_nest(marks: &[Mark]) -> bool
-    ensures { IsTrue result ↔ EndsRaised is_nest_open is_nest_close marks.now }
-{
-    for from in 0..marks.len() {
-        let end = &marks[from..];
-        if closes(end) < opens(end) {
-            return true;
-        }
-    }
-    false
-}
-
-/// How many flat marks there are.
-fn flat_marks(marks: &[Mark]) -> usize
-    ensures { result ≡ count_by is_flat marks.now }
-{
-    let is_flat = |mark: &&Mark| matches!(**mark, Mark::FlatBegin | Mark::FlatEnd);
-    marks.iter().filter(is_flat).count()
 }
 
 /// The first is a flat begin, and no flat mark comes after it.
@@ -117,7 +108,7 @@ fn begins_last_flat(marks: &[Mark]) -> bool
         ↔ ((later : List Mark) × (marks.now ≡ FlatBegin ∷ later) × (count_by is_flat later ≡ 0)) }
 {
     match marks.split_first() {
-        Some((Mark::FlatBegin, later)) => flat_marks(later) == 0,
+        Some((Mark::FlatBegin, later)) => count_marks(later, MarkKind::Flat) == 0,
         _ => false,
     }
 }
@@ -132,14 +123,6 @@ fn is_flat_open(marks: &[Mark]) -> bool
         }
     }
     false
-}
-
-/// How many next-marks there are.
-fn next_marks(marks: &[Mark]) -> usize
-    ensures { result ≡ count_by is_next marks.now }
-{
-    let nexts = marks.iter().filter(|mark| matches!(**mark, Mark::Next(_)));
-    nexts.count()
 }
 
 /// A write in one piece, where plain writes are assumed atomic.
@@ -174,13 +157,17 @@ fn begins_countable(atomic: bool, task: u32, moment: &Moment) -> bool
 }
 
 /// How many of the moments begin a countable access of the task.
+#[tactic(auto, using(std::proofs::lemmas::List::Sums::count_by_more_yes, std::proofs::lemmas::List::Sums::count_by_more_no))]
 fn countable_begins(atomic: bool, task: u32, moments: &[Moment]) -> usize
     ensures { result ≡ count_by (begins_countable atomic task) moments.now }
 {
-    moments
-        .iter()
-        .filter(|moment| begins_countable(atomic, task, moment))
-        .count()
+    let mut count = 0;
+    for moment in moments {
+        if begins_countable(atomic, task, moment) {
+            count += 1;
+        }
+    }
+    count
 }
 
 /// The first moment is the task's last next-mark, and fewer countable accesses began since than it
@@ -199,7 +186,7 @@ fn begins_last_next(alloc: Global, atomic: bool, task: u32, moments: &[Moment]) 
     };
     let marks = marks_of(alloc, later, task)?;
     let begun = countable_begins(atomic, task, later);
-    Ok(first.task == task && next_marks(&marks) == 0 && (begun as u64) < count)
+    Ok(first.task == task && count_marks(&marks, MarkKind::Next) == 0 && (begun as u64) < count)
 }
 
 /// The last next-mark of the task is near enough.
@@ -240,7 +227,7 @@ fn is_silenced_at(alloc: Global, history: &[Moment], a: &Access, k: usize) -> An
         × EndsRaised is_disable is_enable (marks_of a.now.task (take k history.now)))) }
 {
     let marks = marks_of(alloc, &history[..k], a.task())?;
-    Ok(begins_here(&history[k..], a) && is_disabled(&marks))
+    Ok(begins_here(&history[k..], a) && ends_raised(&marks, MarkKind::Disable, MarkKind::Enable))
 }
 
 /// The access is silenced.
@@ -270,7 +257,8 @@ fn counts_after(alloc: Global, atomic: bool, a: &Access, before: &[Moment]) -> A
     }
     let marks = marks_of(alloc, before, a.task())?;
     let within_next = is_within_next(alloc, atomic, a.task(), before)?;
-    Ok(within_next || is_in_nest(&marks) || is_flat_open(&marks))
+    let in_nest = ends_raised(&marks, MarkKind::NestOpen, MarkKind::NestClose);
+    Ok(within_next || in_nest || is_flat_open(&marks))
 }
 
 /// The access begins after k moments, and counts as marked then.

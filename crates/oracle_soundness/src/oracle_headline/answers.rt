@@ -5,25 +5,30 @@ ghost use Rattle.oracle_soundness.specs.oracle_headline.Tried.{Answered, IsAnswe
 
 use crate::oracle_headline::meetings::Meeting;
 use crate::oracle_headline::told::{Came, ToldExecution};
-use setup_access::Outcome;
+use crate::oracle_headline::totals::is_answer;
 
 /// What came is a report of two sides or a named discard, for the arming.
 fn answers(index: usize, number: usize, came: &Came) -> bool
     ensures { result ≡ answers index number came.now }
 {
-    let is_answer = matches!(came.outcome, Outcome::Report { .. } | Outcome::Dropped(_));
     match came.arming {
-        Some(arming) => is_answer && arming.index == index && arming.number == number,
+        Some(arming) => is_answer(came) && arming.index == index && arming.number == number,
         None => false,
     }
 }
 
 /// How many answers the arming has.
+#[tactic(auto, using(std::proofs::lemmas::List::Sums::count_by_more_yes, std::proofs::lemmas::List::Sums::count_by_more_no))]
 fn answers_to(told: &ToldExecution, index: usize, number: usize) -> usize
     ensures { result ≡ count_by (answers index number) told.now.outcomes.items }
 {
-    let outcomes = told.outcomes.as_slice().iter();
-    outcomes.filter(|came| answers(index, number, came)).count()
+    let mut count = 0;
+    for came in told.outcomes.as_slice() {
+        if answers(index, number, came) {
+            count += 1;
+        }
+    }
+    count
 }
 
 /// It has one.

@@ -22,7 +22,12 @@ fn differ(mask: Option<u64>, old: u64, new: u64) -> bool
 fn none_of(task: u32, moments: &[Moment]) -> bool
     ensures { IsTrue result → All (λ (moment : spec.Moment). moment.task ≢ task) moments.now }
 {
-    moments.iter().all(|moment| moment.task != task)
+    for moment in moments {
+        if moment.task == task {
+            return false;
+        }
+    }
+    true
 }
 
 /// The bytes of the access hold the value after k moments.

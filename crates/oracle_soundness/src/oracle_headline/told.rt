@@ -5,14 +5,14 @@ use setup_access::Outcome;
 use slot_table::Record;
 
 /// An arming, by its index and its number.
-#[derive(Clone, Copy, PartialEq, Eq)]
+#[derive(Clone, Copy)]
 pub struct Armed {
     pub index: usize,
     pub number: usize,
 }
 
 /// What came of checking an access once, and the arming that its task has in hand since then.
-#[derive(Clone, Copy, PartialEq, Eq)]
+#[derive(Clone, Copy)]
 pub struct Came {
     pub access: Access,
     pub outcome: Outcome,

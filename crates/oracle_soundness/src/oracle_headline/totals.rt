@@ -1,6 +1,7 @@
 //! How often each thing came of the checks of a list, and whether these totals agree.
 
-ghost use Rattle.std.specs.Prelude.{◌≡◌, ◌≤◌, ◌+◌, IsTrue, Some};
+ghost use Rattle.std.specs.Prelude.{◌≡◌, ◌+◌, ◌≤◌, IsTrue, Some, count_by};
+ghost use Rattle.oracle_soundness.specs.oracle_headline.Kinds.{is_made};
 ghost use Rattle.oracle_soundness.specs.oracle_headline.Tried as spec;
 ghost use Rattle.oracle_soundness.specs.oracle_headline.Tried.{came_so, made_so};
 ghost use Rattle.task_log.specs.Counters as counted;
@@ -8,60 +9,78 @@ ghost use Rattle.task_log.specs.Counters as counted;
 use crate::oracle_headline::told::{Came, ToldExecution};
 use setup_access::Outcome;
 use slot_table::{Answer, Record, Step};
-use value_filter::Reason;
 
-/// The record sets a watchpoint up.
-fn is_arming(made: &Record) -> bool
-    ensures { result ≡ counted.is_arming made.now.step made.now.answer }
-{
-    matches!(
-        (made.step, made.answer),
-        (Step::Insert(..), Answer::Flag(true))
-    )
+/// What the totals count of records.
+#[derive(Clone, Copy)]
+pub enum Made {
+    /// A watchpoint is set up.
+    Arming,
+    /// One ends that nobody hit.
+    Quiet,
+    /// One ends that an access hit.
+    Taken,
+    /// One that was found is tried.
+    Try,
+    /// The try comes too late.
+    Lost,
 }
 
-/// It ends a watchpoint that nobody hit.
-fn is_quiet(made: &Record) -> bool
-    ensures { result ≡ counted.is_quiet made.now.step made.now.answer }
+/// The record is of the kind.
+fn is_made(made: &Record, kind: Made) -> bool
+    ensures { result ≡ is_made kind made.now.step made.now.answer }
 {
-    matches!(
-        (made.step, made.answer),
-        (Step::Consume(_), Answer::Flag(true))
-    )
+    let so = (made.step, made.answer);
+    match kind {
+        Made::Arming => matches!(so, (Step::Insert(..), Answer::Flag(true))),
+        Made::Quiet => matches!(so, (Step::Consume(_), Answer::Flag(true))),
+        Made::Taken => matches!(so, (Step::Consume(_), Answer::Flag(false))),
+        Made::Try => matches!(made.step, Step::TryConsume(..)),
+        Made::Lost => matches!(so, (Step::TryConsume(..), Answer::Flag(false))),
+    }
 }
 
-/// It ends a watchpoint that an access hit.
-fn is_taken(made: &Record) -> bool
-    ensures { result ≡ counted.is_taken made.now.step made.now.answer }
+/// How many records are of the kind.
+#[tactic(auto, using(std::proofs::lemmas::List::Sums::count_by_more_yes, std::proofs::lemmas::List::Sums::count_by_more_no))]
+fn count_made(records: &[Record], kind: Made) -> usize
+    ensures { result ≡ made_so (is_made kind) records.now }
 {
-    matches!(
-        (made.step, made.answer),
-        (Step::Consume(_), Answer::Flag(false))
-    )
+    let mut count = 0;
+    for made in records {
+        if is_made(made, kind) {
+            count += 1;
+        }
+    }
+    count
 }
 
-/// It tries to take a watchpoint.
-fn is_try(made: &Record) -> bool
-    ensures { result ≡ spec.is_try made.now.step made.now.answer }
+/// What came is a report of two sides or a named discard.
+pub(crate) fn is_answer(came: &Came) -> bool
+    ensures { result ≡ spec.is_answer came.now.outcome }
 {
-    matches!(made.step, Step::TryConsume(..))
+    matches!(came.outcome, Outcome::Report { .. } | Outcome::Dropped(_))
 }
 
-/// It comes too late for that.
-fn is_lost(made: &Record) -> bool
-    ensures { result ≡ counted.is_lost made.now.step made.now.answer }
+/// How many outcomes are a report of two sides or a named discard.
+#[tactic(auto, using(std::proofs::lemmas::List::Sums::count_by_more_yes, std::proofs::lemmas::List::Sums::count_by_more_no))]
+fn count_answered(outcomes: &[Came]) -> usize
+    ensures { result ≡ count_by (λ came. spec.is_answer came.outcome) outcomes.now }
 {
-    matches!(
-        (made.step, made.answer),
-        (Step::TryConsume(..), Answer::Flag(false))
-    )
+    let mut count = 0;
+    for came in outcomes {
+        if is_answer(came) {
+            count += 1;
+        }
+    }
+    count
 }
 
-/// A race of two accesses is reported.
-fn is_two_sided(came: &Came) -> bool
-    ensures { result ≡ counted.is_two_sided (Some came.now.outcome) }
+/// How many hits are reported or dropped, counted by what came of each.
+fn answered(outcomes: &[Came]) -> usize
+    ensures { result
+        ≡ came_so counted.is_two_sided outcomes.now + came_so counted.is_encoding outcomes.now
+        + came_so counted.is_same outcomes.now + came_so counted.is_masked outcomes.now }
 {
-    matches!(came.outcome, Outcome::Report { .. })
+    count_answered(outcomes)
 }
 
 /// A change of unknown origin is reported.
@@ -71,105 +90,18 @@ fn is_unknown(came: &Came) -> bool
     matches!(came.outcome, Outcome::Unknown { .. })
 }
 
-/// A hit is dropped, since the two accesses share no byte.
-fn is_encoding(came: &Came) -> bool
-    ensures { result ≡ counted.is_encoding (Some came.now.outcome) }
-{
-    matches!(came.outcome, Outcome::Dropped(Reason::Encoding))
-}
-
-/// A hit is dropped, since the value is the same.
-fn is_same(came: &Came) -> bool
-    ensures { result ≡ counted.is_same (Some came.now.outcome) }
-{
-    matches!(came.outcome, Outcome::Dropped(Reason::SameValue))
-}
-
-/// A hit is dropped, since no bit of the mask changed.
-fn is_masked(came: &Came) -> bool
-    ensures { result ≡ counted.is_masked (Some came.now.outcome) }
-{
-    matches!(came.outcome, Outcome::Dropped(Reason::MaskedBits))
-}
-
-/// How many watchpoints were set up.
-fn arms(records: &[Record]) -> usize
-    ensures { result ≡ made_so counted.is_arming records.now }
-{
-    records.iter().filter(|made| is_arming(made)).count()
-}
-
-/// How many ended that nobody hit.
-fn quiet(records: &[Record]) -> usize
-    ensures { result ≡ made_so counted.is_quiet records.now }
-{
-    records.iter().filter(|made| is_quiet(made)).count()
-}
-
-/// How many ended that an access hit.
-fn taken(records: &[Record]) -> usize
-    ensures { result ≡ made_so counted.is_taken records.now }
-{
-    records.iter().filter(|made| is_taken(made)).count()
-}
-
-/// How many tries there were.
-fn tries(records: &[Record]) -> usize
-    ensures { result ≡ made_so spec.is_try records.now }
-{
-    records.iter().filter(|made| is_try(made)).count()
-}
-
-/// How many of them came too late.
-fn lost(records: &[Record]) -> usize
-    ensures { result ≡ made_so counted.is_lost records.now }
-{
-    records.iter().filter(|made| is_lost(made)).count()
-}
-
-/// How many races of two accesses are reported.
-fn two_sided(outcomes: &[Came]) -> usize
-    ensures { result ≡ came_so counted.is_two_sided outcomes.now }
-{
-    outcomes.iter().filter(|came| is_two_sided(came)).count()
-}
-
 /// How many changes of unknown origin are reported.
-fn unknown(outcomes: &[Came]) -> usize
+#[tactic(auto, using(std::proofs::lemmas::List::Sums::count_by_more_yes, std::proofs::lemmas::List::Sums::count_by_more_no))]
+fn count_unknown(outcomes: &[Came]) -> usize
     ensures { result ≡ came_so counted.is_unknown outcomes.now }
 {
-    outcomes.iter().filter(|came| is_unknown(came)).count()
-}
-
-/// How many hits are dropped, since the two accesses share no byte.
-fn encoding(outcomes: &[Came]) -> usize
-    ensures { result ≡ came_so counted.is_encoding outcomes.now }
-{
-    outcomes.iter().filter(|came| is_encoding(came)).count()
-}
-
-/// How many hits are dropped, since the value is the same.
-fn same(outcomes: &[Came]) -> usize
-    ensures { result ≡ came_so counted.is_same outcomes.now }
-{
-    outcomes.iter().filter(|came| is_same(came)).count()
-}
-
-/// How many hits are dropped, since no bit of the mask changed.
-fn masked(outcomes: &[Came]) -> usize
-    ensures { result ≡ came_so counted.is_masked outcomes.now }
-{
-    outcomes.iter().filter(|came| is_masked(came)).count()
-}
-
-/// How many hits are reported or dropped.
-fn answered(outcomes: &[Came]) -> u128
-    ensures { result
-        ≡ came_so counted.is_two_sided outcomes.now + came_so counted.is_encoding outcomes.now
-        + came_so counted.is_same outcomes.now + came_so counted.is_masked outcomes.now }
-{
-    let reported = two_sided(outcomes) as u128 + encoding(outcomes) as u128;
-    reported + same(outcomes) as u128 + masked(outcomes) as u128
+    let mut count = 0;
+    for came in outcomes {
+        if is_unknown(came) {
+            count += 1;
+        }
+    }
+    count
 }
 
 /// The totals agree.
@@ -177,9 +109,11 @@ pub fn law_totals_agree(told: &ToldExecution) -> bool
     ensures { IsTrue result → spec.Totals told.now.records.items told.now.outcomes.items }
 {
     let (records, outcomes) = (told.records.as_slice(), told.outcomes.as_slice());
-    let (quiet, taken) = (quiet(records), taken(records));
-    arms(records) as u128 == quiet as u128 + taken as u128
-        && tries(records) as u128 == taken as u128 + lost(records) as u128
-        && taken as u128 == answered(outcomes)
-        && unknown(outcomes) <= quiet
+    let quiet = count_made(records, Made::Quiet);
+    let taken = count_made(records, Made::Taken);
+    let lost = count_made(records, Made::Lost);
+    count_made(records, Made::Arming) as u128 == quiet as u128 + taken as u128
+        && count_made(records, Made::Try) as u128 == taken as u128 + lost as u128
+        && taken == answered(outcomes)
+        && count_unknown(outcomes) <= quiet
 }

@@ -4,7 +4,7 @@ use access_types::{Moment, Report};
 use value_filter::Reason;
 
 /// A taking of a watchpoint: the tickets of the access that set it up and of the one that took it.
-#[derive(Clone, Copy, PartialEq, Eq)]
+#[derive(Clone, Copy)]
 pub struct Taking {
     pub setter: u32,
     pub finder: u32,
