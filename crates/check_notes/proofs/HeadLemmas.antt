@@ -1,5 +1,6 @@
 -- What is gone over in a head is what the head passes over.
-use Rattle.std.proofs.Common.{◌≡◌, ◌∙◌, ◌+◌, ◌-◌, ◌<◌, ◌++◌, ◌∷◌, [], ℕ, Bool, List, None, Option, Some, add-one, ap, ap₂, append_assoc, arith, drop, false, inl, inr, length, length-append, ne_eqb, refl, subst, suc, sym, true, zero-add}
+use Rattle.std.proofs.Common.{◌≡◌, ◌∙◌, ◌+◌, ◌-◌, ◌<◌, ◌++◌, ◌∷◌, [], ℕ, Bool, List, None, Option, Some, add-one, ap, ap₂, append_assoc}
+use Rattle.std.proofs.Common.{arith, drop, false, inl, inr, length, length-append, ne_eqb, refl, subst, suc, sym, true, zero-add}
 use Rattle.std.specs.Prelude.{◌==◌, ◌&&◌, if◌then◌else◌, option_and_then, slice_index}
 use Rattle.std.specs.List.{concat}
 use Rattle.std.proofs.lemmas.Bool.{not-true}

@@ -3,7 +3,8 @@
 ghost use Rattle.std.specs.Prelude.{◌≡◌, ◌++◌, [], IfOk, OnOk, codes, option_map, unwrap_or};
 ghost use Rattle.std.specs.Fmt.{decimal};
 ghost use Rattle.std.specs.String.{string_bytes};
-ghost use Rattle.litmus_syntax.specs.PrintedForm.{◌⧺◌, assign_text, assignment_text, block_text, call_text, check_function, expression_text, for_head, if_head, line, load_text, mark_text, name_at, scope_suffix, statement_text, write_text};
+ghost use Rattle.litmus_syntax.specs.PrintedForm.{◌⧺◌, assign_text, assignment_text, block_text, call_text, check_function, expression_text, for_head};
+ghost use Rattle.litmus_syntax.specs.PrintedForm.{if_head, line, load_text, mark_text, name_at, scope_suffix, statement_text, write_text};
 ghost use Rattle.litmus_syntax.specs.Views.{assignment_of, block_of, expression_of, load_of, statement_of};
 
 use crate::expression::{

@@ -1,6 +1,7 @@
 -- Counts that stay at a greatest number.
 use native.Mathlib.Omega.{arith}
-use Rattle.std.proofs.Common.{◌≡◌, ◌∙◌, ◌+◌, ◌++◌, ◌≤◌, ◌<◌, ℕ, Bool, true, false, if◌then◌else◌, [], ◌∷◌, List, add-one, ap, drop, drop-cons, get_or, length, length-append, max, min, refl, suc, sym}
+use Rattle.std.proofs.Common.{◌≡◌, ◌∙◌, ◌+◌, ◌++◌, ◌≤◌, ◌<◌, ℕ, Bool, true, false, if◌then◌else◌, [], ◌∷◌, List, add-one}
+use Rattle.std.proofs.Common.{ap, drop, drop-cons, get_or, length, length-append, max, min, refl, suc, sym}
 use Rattle.litmus_syntax.specs.Sites.{accesses_of, has_access, itself, sites_of}
 use Rattle.litmus_syntax.specs.declared.statement.Statement.{Statement as Coded}
 use Rattle.litmus_syntax.specs.Tree.{Block, Expression, Statement}

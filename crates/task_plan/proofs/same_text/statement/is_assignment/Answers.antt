@@ -7,7 +7,9 @@ use Rattle.litmus_syntax.specs.declared.statement.Statement.TheVariants as state
 use Rattle.litmus_syntax.specs.declared.statement.Assignment.{Assignment}
 use Rattle.task_plan.proofs.same_text.statement.is_assignment.Goals as goal
 
-other_is_no_assignment : (s : Statement) (data_race : Bool) (assignment : Assignment) → ((inside : Bool) (own : Assignment) → s ≡ statements.Assign inside own → ⊥) → statement_of s ≡ tree.assign data_race (assignment_of assignment) → ⊥
+other_is_no_assignment : (s : Statement) (data_race : Bool) (assignment : Assignment)
+    → ((inside : Bool) (own : Assignment) → s ≡ statements.Assign inside own → ⊥)
+    → statement_of s ≡ tree.assign data_race (assignment_of assignment) → ⊥
 other_is_no_assignment (statements.Load l) data_race assignment other e = cc
 other_is_no_assignment (statements.Assign d a) data_race assignment other e = other d a refl
 other_is_no_assignment (statements.Call c) data_race assignment other e = cc
