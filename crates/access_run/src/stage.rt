@@ -32,6 +32,7 @@ pub enum AccessStage {
 }
 
 /// The operation of an access, which makes its steps after the check. Its bytes lie in one cell.
+#[inline(always)]
 pub(crate) fn ready(
     checker: &Checker,
     access: &Access,
@@ -48,6 +49,7 @@ pub(crate) fn ready(
 
 /// What follows on a step of the check, where the check is over. Where it goes on nothing is copied: most steps are
 /// such.
+#[inline(always)]
 pub(crate) fn after_check(checker: &Checker, run: &Option<OperationRun>) -> Option<AccessStage>
     ensures going { IfSome result IsUnderWay }
     ensures leads { (s : Setting) (scopes : List Begun) (begun : Begun) (asked : ℕ) (operation : Option kinds.Operation) (records : List Record) (last : Record)
@@ -68,6 +70,7 @@ pub(crate) fn after_check(checker: &Checker, run: &Option<OperationRun>) -> Opti
 }
 
 /// What follows on a step of the operation, where that is over.
+#[inline(always)]
 pub(crate) fn after_step(run: &OperationRun) -> Option<AccessStage>
     ensures going { IfSome result IsUnderWay }
     ensures leads { (s : Setting) (scopes : List Begun) (begun : Begun) (asked : ℕ) (operation : Option kinds.Operation)

@@ -13,6 +13,7 @@ pub struct Stamps {
 }
 
 /// The stamp that the clock answered.
+#[inline(always)]
 pub(crate) fn stamp_of(answer: Answer) -> Option<u64>
     ensures { result ≡ stamp_in answer }
 {

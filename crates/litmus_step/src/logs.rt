@@ -16,6 +16,7 @@ use std::alloc::{AllocError, Global};
 use task_log::{Counters, Noted, TaskLog};
 
 /// A report, if there is one, is kept where there is room for it.
+#[inline(always)]
 fn add(reports: &mut Vec<Report>, report: Option<Report>)
     ensures added { Added report (vec_capacity reports.old) reports.old.items reports.new.items }
     ensures room { vec_capacity reports.new ≡ vec_capacity reports.old }
@@ -29,6 +30,7 @@ fn add(reports: &mut Vec<Report>, report: Option<Report>)
 }
 
 /// A step of a task is noted, and what is reported at it is kept.
+#[inline(always)]
 pub fn note(log: &mut TaskLog, reports: &mut Vec<Report>, noted: &Noted)
     ensures noted { (report : Option Report) × IsNotedIn log.old noted.now log.new report
         × Added report (vec_capacity reports.old) reports.old.items reports.new.items }

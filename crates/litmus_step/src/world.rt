@@ -57,6 +57,7 @@ pub struct World<'a> {
 }
 
 /// A step of a task is noted in its log, and what is reported at it is kept.
+#[inline(always)]
 fn note_in(logs: &mut Vec<TaskLog>, reports: &mut Vec<Report>, task: usize, noted: &Noted)
     requires { task < vec_len logs.old }
     ensures noted { (log : TaskLog) → slice_get logs.old.items task ≡ Some log
@@ -144,6 +145,7 @@ impl<'a> World<'a> {
     }
 
     /// A task makes its next step. One that has ended or is stuck makes none.
+    #[inline(always)]
     pub fn step(&mut self, task: usize) -> Stepped
         requires { task < tasks_in self.old }
         ensures steps { (run : Run) (records : List Record) → LeadsTo run records self.old → StepsOn run records task self.old self.new }
@@ -167,6 +169,7 @@ impl<'a> World<'a> {
     }
 
     /// A task makes this step, which is its next: what it is answered.
+    #[inline(always)]
     pub fn make(&mut self, task: usize, step: Step) -> Answer
         requires there { task < tasks_in self.old }
         requires next { MakesNextIn self.old.tasks.items task step }
@@ -195,6 +198,7 @@ impl<'a> World<'a> {
     }
 
     /// What a task is now.
+    #[inline(always)]
     fn state(&self, task: usize) -> Stepped
         requires { task < tasks_in self.now }
         ensures { (machine : TaskRun) → IsMachine self.now task machine → SteppedLeaves result machine }

@@ -29,6 +29,7 @@ impl Begun {
         }
     }
 
+    #[inline(always)]
     pub(crate) fn same(&self) -> Begun
         ensures { result ≡ self.now }
     {

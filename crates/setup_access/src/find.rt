@@ -42,6 +42,7 @@ impl Find {
         }
     }
 
+    #[inline(always)]
     fn index(self, setting: &Setting, access: &Access) -> usize
         ensures { (sites : AccessMap) → result ≡ look_index self.place (slot_of (setting_with setting.now sites) access.now) }
     {
@@ -49,6 +50,7 @@ impl Find {
             .of_look_up(page_slot(access.addr(), setting.rules.slots))
     }
 
+    #[inline(always)]
     pub(crate) fn next(self, setting: &Setting, access: &Access) -> Step
         ensures { (sites : AccessMap) → result ≡ find_step (setting_with setting.now sites) access.now self }
     {
@@ -56,6 +58,7 @@ impl Find {
     }
 
     /// Takes the word that was read. The first match ends the look-up: an access has one handshake in hand at most.
+    #[inline(always)]
     pub(crate) fn answer(self, setting: &Setting, access: &Access, word: u64) -> Sought
         requires { 0 < access.now.size }
         ensures { (sites : AccessMap) (found : Option Watchpoint) (later rest : List Record) → let s = setting_with setting.now sites in
@@ -74,6 +77,7 @@ impl Find {
 
 /// Whether the access hits the watchpoint of a word. Two reads never conflict, so one has to write or assert no
 /// accesses. The ranges are compared as far as words have their addresses: the setter drops a match too many.
+#[inline(always)]
 fn hits(layout: Layout, access: &Access, word: u64) -> bool
     requires { 0 < access.now.size }
     ensures { IsTrue result ↔ Hits layout access.now word }

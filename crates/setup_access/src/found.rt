@@ -40,6 +40,7 @@ pub enum Taking {
 
 /// `kcsan_found_watchpoint`. An access with a mask takes nothing: which of its bits change only its own watch
 /// could tell, and the setter knows of no mask.
+#[inline(always)]
 pub(crate) fn found_watchpoint(begun: &Begun, found: Watchpoint) -> Transition
     ensures fits { given_now result.outcome + to_due result.to ≤ 1 }
     ensures waits { to_wait result.to ≡ None }
@@ -55,6 +56,7 @@ pub(crate) fn found_watchpoint(begun: &Begun, found: Watchpoint) -> Transition
 }
 
 impl Found {
+    #[inline(always)]
     pub(crate) fn next(self, access: &Access) -> Step
         ensures { result ≡ found_step access.now self }
     {
@@ -65,6 +67,7 @@ impl Found {
         }
     }
 
+    #[inline(always)]
     pub(crate) fn answer(self, access: &Access, answer: Answer) -> Taking
         requires { Answers (found_step access.now self) answer }
         ensures waits { Counts (found_wait self) (found_step access.now self) answer (taking_wait result) }
@@ -86,6 +89,7 @@ impl Found {
 }
 
 /// It was tried. Refused, another access was first, or the watch was over: neither is this one's to tell.
+#[inline(always)]
 fn tried(found: Watchpoint, taken: bool) -> Taking
     ensures { result ≡ (if taken then Taking.Going (Found.HearSetter found.index 0) else Taking.Over Outcome.Lost) }
 {
@@ -99,6 +103,7 @@ fn tried(found: Watchpoint, taken: bool) -> Taking
 }
 
 /// The pair was loaded. A half of 0 isn't the setter's yet, who names itself right after its insertion.
+#[inline(always)]
 fn heard_setter(index: usize, tries: u64, setter: u32) -> Taking
     ensures failed { setter ≡ 0 → result ≡ Taking.Going (Found.HearSetter index (min (tries + 1) (2 ^ 64 - 1))) }
     ensures stands { 0 < setter → result ≡ Taking.Going (Found.Tell index setter) }
@@ -114,6 +119,7 @@ fn heard_setter(index: usize, tries: u64, setter: u32) -> Taking
 
 /// Where its step leads the check. A finder that has told goes on at once: the setter knows whether the bytes
 /// changed, and reports.
+#[inline(always)]
 pub(crate) fn took(found: Found, begun: &Begun, answer: Answer) -> Transition
     requires { Answers (found_step begun.now.access found) answer }
     ensures fits { given_now result.outcome + to_due result.to ≤ 1 }

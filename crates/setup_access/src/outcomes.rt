@@ -44,12 +44,14 @@ impl Outcomes {
     }
 
     /// None yet: room and what stands in it stay, so a check that begins writes one number.
+    #[inline(always)]
     pub(crate) fn clear(&mut self)
         ensures { self.new ≡ [] }
     {
         self.count = 0;
     }
 
+    #[inline(always)]
     pub(crate) fn extend(&mut self, outcome: Option<Outcome>)
         requires { length self.old + given_now outcome ≤ 9 }
         ensures { self.new ≡ extended self.old outcome }
@@ -60,6 +62,7 @@ impl Outcomes {
         }
     }
 
+    #[inline(always)]
     pub(crate) fn as_slice(&self) -> &[Outcome]
         ensures { result.now ≡ self.now }
     {

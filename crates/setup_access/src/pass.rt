@@ -53,6 +53,7 @@ pub struct Transition {
 
 /// `check_access`, of an access that isn't silenced. One that found a watchpoint sets none up: its race is that watch's
 /// to report. Which others are watched the sampler says: all that may be by default, where core.c has few.
+#[inline(always)]
 fn check_access(
     find: Find,
     setting: &Setting,
@@ -86,6 +87,7 @@ fn check_access(
 
 /// Whether the access is to be watched. That it counts as marked comes first, so that marked accesses, which
 /// set nothing up, don't count as skipped.
+#[inline(always)]
 fn should_watch(setting: &Setting, sites: &Sites, sampler: &mut Sampler, begun: &Begun) -> bool
     ensures marked { begun.now.marked ≡ true → result ≡ false }
     ensures kept { begun.now.marked ≡ true → sampler.new ≡ sampler.old }
@@ -98,6 +100,7 @@ fn should_watch(setting: &Setting, sites: &Sites, sampler: &mut Sampler, begun: 
 }
 
 impl Pass {
+    #[inline(always)]
     pub(crate) fn next(self, setting: &Setting, begun: &Begun) -> Step
         ensures { (sites : AccessMap) → result ≡ pass_step (setting_with setting.now sites) begun.now self }
     {
@@ -110,6 +113,7 @@ impl Pass {
         }
     }
 
+    #[inline(always)]
     pub(crate) fn answer(
         self,
         setting: &Setting,
@@ -139,6 +143,7 @@ impl Pass {
     }
 
     /// How many tries of its wait failed, if it waits.
+    #[inline(always)]
     pub(crate) fn tries(self) -> Option<u64>
         ensures { result ≡ tries_of (pass_wait self) }
     {
@@ -151,6 +156,7 @@ impl Pass {
 }
 
 impl Transition {
+    #[inline(always)]
     pub(crate) fn going(pass: Pass) -> Transition
         ensures { result ≡ record { outcome = None; to = Next.Going pass } }
     {
@@ -160,6 +166,7 @@ impl Transition {
         }
     }
 
+    #[inline(always)]
     pub(crate) fn over(outcome: Outcome, to: Next) -> Transition
         ensures { result ≡ record { outcome = Some outcome; to = to } }
     {

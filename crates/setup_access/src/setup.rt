@@ -80,6 +80,7 @@ pub enum Watching {
 
 /// `kcsan_setup_watchpoint`. The access is watched if a word can stand for it: a word that says less of it
 /// would be met by the wrong ones.
+#[inline(always)]
 pub(crate) fn setup_watchpoint(setting: &Setting, begun: &Begun) -> Transition
     ensures fits { given_now result.outcome + to_due result.to ≤ 1 }
     ensures waits { to_wait result.to ≡ None }
@@ -98,6 +99,7 @@ pub(crate) fn setup_watchpoint(setting: &Setting, begun: &Begun) -> Transition
 }
 
 impl Setup {
+    #[inline(always)]
     pub(crate) fn next(self, setting: &Setting, access: &Access) -> Step
         ensures { (sites : AccessMap) → result ≡ setup_step (setting_with setting.now sites) access.now self }
     {
@@ -112,6 +114,7 @@ impl Setup {
         }
     }
 
+    #[inline(always)]
     pub(crate) fn answer(
         self,
         setting: &Setting,
@@ -168,6 +171,7 @@ impl Setup {
     }
 }
 
+#[inline(always)]
 fn index_of(place: ProbeIndex, setting: &Setting, access: &Access) -> usize
     ensures { (sites : AccessMap) → result ≡ try_index place (spec.slot_of (setting_with setting.now sites) access.now) }
 {
@@ -175,6 +179,7 @@ fn index_of(place: ProbeIndex, setting: &Setting, access: &Access) -> usize
 }
 
 /// An index was tried. Refused, it is occupied, and the next one is tried: as in core.c its neighbours stand in.
+#[inline(always)]
 fn inserted(
     setting: &Setting,
     access: &Access,
@@ -196,6 +201,7 @@ fn inserted(
 }
 
 /// The setter has named itself. It loads its value, if it has one; else only who takes the word tells of a race.
+#[inline(always)]
 fn named(setting: &Setting, access: &Access, index: usize) -> Watching
     requires { 0 < access.now.size }
     ensures { (sites : AccessMap) → result ≡ Watching.Going (after_name index (values.source_of (setting_with setting.now sites) access.now)) }
@@ -210,6 +216,7 @@ fn named(setting: &Setting, access: &Access, index: usize) -> Watching
 }
 
 /// The setter has consumed its word. If nobody had hit it nobody will, so the verdict falls at once.
+#[inline(always)]
 fn consumed(
     setting: &Setting,
     access: &Access,
@@ -233,6 +240,7 @@ fn consumed(
 
 /// Where its step leads the check. After the verdict the pair is emptied, while the index is still its own, so
 /// that the next setter there finds nobody named. The word goes last: from then on the index is another's.
+#[inline(always)]
 pub(crate) fn watched(
     setup: Setup,
     setting: &Setting,
@@ -258,6 +266,7 @@ pub(crate) fn watched(
 
 /// Nobody hit the watchpoint. A change that was seen has an unknown origin: whoever made it had looked too early,
 /// had ended its look-up at another watchpoint, or looks nothing up.
+#[inline(always)]
 fn untouched(setting: &Setting, access: &Access, values: Option<(u64, u64)>) -> Outcome
     ensures { (sites : AccessMap) → UntouchedOutcome (setting_with setting.now sites) access.now values result }
 {
@@ -275,6 +284,7 @@ fn untouched(setting: &Setting, access: &Access, values: Option<(u64, u64)>) -> 
 
 /// An access hit the watchpoint, by the ticket that was heard. If the two share no byte, only their words
 /// met, and that is no race: so it comes before all other verdicts.
+#[inline(always)]
 fn hit(
     setting: &Setting,
     sites: &Sites,
@@ -300,6 +310,7 @@ fn hit(
 
 /// Whether the ticket names an access that shares a byte with the setter's. The true ranges are compared,
 /// and not what words have of them.
+#[inline(always)]
 fn shares_byte(sites: &Sites, access: &Access, ticket: u32) -> bool
     ensures { IsTrue result ↔ SharesByte sites.now access.now ticket }
 {

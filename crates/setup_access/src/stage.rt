@@ -48,6 +48,7 @@ pub enum CheckStage {
 }
 
 /// The check of an access from its look-up on: it has made no step yet.
+#[inline(always)]
 fn check_of(role: Role, begun: Begun) -> CheckStage
     ensures { result ≡ CheckStage.Check role begun (Pass.Find (record { place = ProbeIndex.First })) }
 {
@@ -60,6 +61,7 @@ fn check_of(role: Role, begun: Begun) -> CheckStage
 
 /// The stamp of an access's begin is drawn. A silenced access takes and sets up nothing, so no report names it.
 /// But it counts as skipped: which accesses of a task are watched doesn't hang on what is silenced.
+#[inline(always)]
 pub(crate) fn began(
     setting: &Setting,
     sites: &Sites,
@@ -85,6 +87,7 @@ pub(crate) fn began(
 /// A scope ends: its assertion is checked a last time, unless it or its task by now is silenced. What breaks it
 /// after its task's last access within the scope meets this check alone. The check has the assertion with what was
 /// decided at its begin: there is one only where neither the assertion nor its task is silenced.
+#[inline(always)]
 pub(crate) fn closing(begun: Begun, silenced: bool) -> CheckStage
     ensures fits { stage_due result ≤ 9 }
     ensures waits { stage_wait result ≡ None }
@@ -98,6 +101,7 @@ pub(crate) fn closing(begun: Begun, silenced: bool) -> CheckStage
     check_of(Role::Closing, begun)
 }
 
+#[inline(always)]
 pub(crate) fn after_turn(to: Next, role: Role, begun: Begun, scopes: &[Begun]) -> CheckStage
     requires { length scopes.now ≤ 8 }
     ensures fits { stage_due result ≤ to_due to + role_due role }
@@ -117,6 +121,7 @@ pub(crate) fn after_turn(to: Next, role: Role, begun: Begun, scopes: &[Begun]) -
 /// What follows on a check of an access that is over. One that found a watchpoint or stalled for its own has
 /// done enough here. After another, also where no index was free or no word stands for it, the scoped
 /// assertions have their turn: one after the other, whatever each finds, since each is a claim apart.
+#[inline(always)]
 fn after_check(role: Role, begun: Begun, is_settled: bool, scopes: &[Begun]) -> CheckStage
     requires { length scopes.now ≤ 8 }
     ensures fits { stage_due result ≤ role_due role }
@@ -136,6 +141,7 @@ fn after_check(role: Role, begun: Begun, is_settled: bool, scopes: &[Begun]) -> 
 }
 
 /// `kcsan_check_scoped_accesses`, from a number on: the first that isn't silenced is checked.
+#[inline(always)]
 fn check_scoped_accesses(scopes: &[Begun], from: usize) -> CheckStage
     requires { length scopes.now ≤ 8 }
     ensures fits { stage_due result ≤ 8 - from }

@@ -10,6 +10,7 @@ use crate::source::Source;
 use access_types::Access;
 
 /// The cell that an access lies in, if it lies in one.
+#[inline(always)]
 fn cell_of(setting: &Setting, access: &Access) -> Option<usize>
     ensures { result ≡ position (spec.lies_in access.now) setting.now.cells.items }
 {
@@ -17,6 +18,7 @@ fn cell_of(setting: &Setting, access: &Access) -> Option<usize>
 }
 
 /// Where an access's value is loaded from, if it has one: its bytes are 1, 2, 4 or 8, and lie in one cell.
+#[inline(always)]
 pub(crate) fn source_of(setting: &Setting, access: &Access) -> Option<Source>
     requires { 0 < access.now.size }
     ensures value { (sites : AccessMap) → result ≡ spec.source_of (setting_with setting.now sites) access.now }
@@ -32,6 +34,7 @@ pub(crate) fn source_of(setting: &Setting, access: &Access) -> Option<Source>
 }
 
 /// Whether the range of the access lies in the cell of eight bytes at an address.
+#[inline(always)]
 fn lies_in(access: &Access, cell: u64) -> bool
     ensures { result ≡ spec.lies_in access.now cell }
 {
@@ -39,6 +42,7 @@ fn lies_in(access: &Access, cell: u64) -> bool
 }
 
 /// The bytes of the access in the word of its cell, the lowest first.
+#[inline(always)]
 pub fn value_in(access: &Access, source: Source, word: u64) -> u64
     ensures { result ≡ spec.value_in access.now source word }
 {

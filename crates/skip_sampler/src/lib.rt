@@ -78,6 +78,7 @@ impl Sampler {
     }
 
     /// Whether the access that asks now is watched.
+    #[inline(always)]
     pub fn should_watch(&mut self) -> bool
         ensures watched { (skip : ℕ) (randomize : Bool) (seed askings : ℕ)
             → LeadsTo skip randomize seed askings self.old

@@ -34,6 +34,7 @@ impl Pair {
     }
 
     /// The pair with these halves.
+    #[inline(always)]
     pub fn of(setter: u32, finder: u32) -> Pair
         ensures { result ≡ record { setter = setter; finder = finder } }
     {
@@ -41,6 +42,7 @@ impl Pair {
     }
 
     /// Names the setter: the bits of its ticket are set in the setter's half.
+    #[inline(always)]
     pub fn name(&mut self, ticket: u32)
         ensures { self.new ≡ (name_line self.old ticket).after }
     {
@@ -49,6 +51,7 @@ impl Pair {
 
     /// Tells the setter who hit its watchpoint: the bits of the finder's ticket are set in its
     /// half. Bits are set and no word is stored, so that the other half stays.
+    #[inline(always)]
     pub fn tell(&mut self, ticket: u32)
         ensures { self.new ≡ (tell_line self.old ticket).after }
     {
@@ -56,6 +59,7 @@ impl Pair {
     }
 
     /// The setter's ticket and the finder's.
+    #[inline(always)]
     pub fn halves(&self) -> (u32, u32)
         ensures setter { result.0 ≡ (halves_line self.now).answer.setter }
         ensures finder { result.1 ≡ (halves_line self.now).answer.finder }
@@ -64,6 +68,7 @@ impl Pair {
     }
 
     /// Forgets both tickets.
+    #[inline(always)]
     pub fn clear(&mut self)
         ensures { self.new ≡ (clear_line self.old).after }
     {

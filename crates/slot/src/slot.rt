@@ -36,6 +36,7 @@ impl Slot {
     }
 
     /// The watch word.
+    #[inline(always)]
     pub fn load(&self) -> u64
         ensures { result ≡ (load_line self.now).answer }
     {
@@ -44,6 +45,7 @@ impl Slot {
 
     /// Sets up the watchpoint `word` if there is none, and answers whether it did. As KCSAN's insert_watchpoint() it
     /// replaces the empty word alone, so that no watch under way is lost.
+    #[inline(always)]
     pub fn insert(&mut self, word: u64) -> bool
         requires { 1 < word }
         ensures answer { result ≡ (insert_line self.old word).answer }
@@ -58,6 +60,7 @@ impl Slot {
 
     /// Marks the watchpoint `word` as hit if it still stands there, and answers whether it did. An
     /// access that found a watchpoint claims it so, and only one access can.
+    #[inline(always)]
     pub fn try_consume(&mut self, word: u64) -> bool
         requires { 1 < word }
         ensures answer { result ≡ (try_consume_line self.old word).answer }
@@ -73,6 +76,7 @@ impl Slot {
     /// Marks whatever stands there as hit, and answers whether it was a watchpoint that nobody had
     /// hit. The setter ends its watch so, as by KCSAN's consume_watchpoint(): in one step, so that a finder was first
     /// or is refused.
+    #[inline(always)]
     pub fn consume(&mut self) -> bool
         ensures answer { result ≡ (consume_line self.old).answer }
         ensures after { self.new ≡ (consume_line self.old).after }
@@ -83,6 +87,7 @@ impl Slot {
     }
 
     /// Takes the watchpoint away.
+    #[inline(always)]
     pub fn remove(&mut self)
         ensures { self.new ≡ (remove_line self.old).after }
     {

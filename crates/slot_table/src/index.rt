@@ -8,6 +8,7 @@ ghost use Rattle.std.specs.Prelude.{◌≡◌, ◌+◌, ◌/◌, ◌%◌, ◌<�
 const PAGE: u64 = 4096;
 
 /// The page slot of an address, one of this many.
+#[inline(always)]
 pub fn page_slot(addr: u64, page_slots: usize) -> usize
     requires { 0 < page_slots }
     ensures value { result ≡ addr / 4096 % page_slots }
@@ -18,6 +19,7 @@ pub fn page_slot(addr: u64, page_slots: usize) -> usize
 
 /// The indices at which an access of this page slot looks for a watchpoint, in this order. As by KCSAN's
 /// SLOT_IDX_FAST() the middle one isn't first: that is fine, since races are rare and the indices are the same.
+#[inline(always)]
 pub fn look_order(page_slot: usize) -> [usize; 3]
     requires { page_slot ≤ 1023 }
     ensures { result ≡ page_slot ∷ (page_slot + 1) ∷ (page_slot + 2) ∷ [] }
@@ -28,6 +30,7 @@ pub fn look_order(page_slot: usize) -> [usize; 3]
 /// The indices at which an access of this page slot tries to set up a watchpoint, in this order. As by KCSAN's
 /// SLOT_IDX() the middle one comes first: look-ups from the page before and from the page after read it too. Where it
 /// is occupied its neighbours are tried.
+#[inline(always)]
 pub fn try_order(page_slot: usize) -> [usize; 3]
     requires { page_slot ≤ 1023 }
     ensures { result ≡ (page_slot + 1) ∷ (page_slot + 2) ∷ page_slot ∷ [] }

@@ -165,6 +165,7 @@ impl Context {
 
     /// Whether the access, which begins now and is of this context's task, counts as marked. One
     /// that `atomic_next` counts takes one of what is left.
+    #[inline(always)]
     pub fn counts_as_marked(&mut self, access: &Access, plain_writes_atomic: bool) -> bool
         ensures counts { (before : History)
             → LeadsTo plain_writes_atomic access.now.task before self.old
@@ -195,6 +196,7 @@ impl Context {
 
     /// Whether an access that begins now is heard: it is silenced while a `disable` isn't taken
     /// back.
+    #[inline(always)]
     pub fn enabled(&self) -> bool
         ensures { (plain_writes_atomic : Bool) (task : ℕ) (before : History)
             → LeadsTo plain_writes_atomic task before self.now
@@ -206,6 +208,7 @@ impl Context {
 
 /// A plain write that the machine makes in one piece, where plain writes are assumed atomic: not
 /// compound, of at most 8 bytes, at a multiple of its size.
+#[inline(always)]
 fn is_atomic_write(access: &Access, plain_writes_atomic: bool) -> bool
     ensures { result ≡ marked.is_atomic_write plain_writes_atomic access.now }
 {

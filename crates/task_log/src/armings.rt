@@ -67,6 +67,7 @@ impl Armings {
     }
 
     /// How many of these armings are by the access with this ticket.
+    #[inline(always)]
     pub(crate) fn by(&self, arms: &[Arm], setter: u32) -> u64
         ensures { CountsBySite arms.now self.now.sites.items → result ≡ armings_by setter arms.now }
     {
@@ -84,6 +85,7 @@ impl Armings {
     }
 
     /// One more arming is noted, by the access with this ticket, after so many by it.
+    #[inline(always)]
     pub(crate) fn note(&mut self, setter: u32, number: u64)
         ensures counts { (arms : List Arm) (arm : Arm) → arm.setter ≡ setter → number ≡ armings_by setter arms
             → number + 1 < 2 ^ 64 → CountsBySite arms self.old.sites.items → CountsBySite (arms ++ arm ∷ []) self.new.sites.items }

@@ -40,6 +40,7 @@ pub struct Counters {
 }
 
 /// A count with one more.
+#[inline(always)]
 fn more(count: u64) -> u64
     ensures { result ≡ more count }
 {
@@ -67,6 +68,7 @@ impl Counters {
     }
 
     /// A step is noted.
+    #[inline(always)]
     pub fn note(&mut self, noted: &Noted)
         ensures { (own : List Noted) → Count own self.old → Count (noted.now ∷ own) self.new }
     {
@@ -75,6 +77,7 @@ impl Counters {
     }
 
     /// What a step does to a watchpoint is counted. Most steps do nothing to one, and then no count is touched.
+    #[inline(always)]
     fn note_step(&mut self, noted: &Noted)
         ensures arms { self.new.arms ≡ counting (is_arming noted.now.step noted.now.answer) self.old.arms }
         ensures quiet { self.new.quiet ≡ counting (is_quiet noted.now.step noted.now.answer) self.old.quiet }
@@ -97,6 +100,7 @@ impl Counters {
     }
 
     /// What came of a check is counted, where a step settles it.
+    #[inline(always)]
     fn note_outcome(&mut self, noted: &Noted)
         ensures two_sided { self.new.two_sided ≡ counting (is_two_sided noted.now.outcome) self.old.two_sided }
         ensures unknown { self.new.unknown ≡ counting (is_unknown noted.now.outcome) self.old.unknown }
@@ -128,6 +132,7 @@ impl Counters {
     }
 
     /// Those of another task are added.
+    #[inline(always)]
     pub fn add(&mut self, other: &Counters)
         ensures arms { self.new.arms ≡ together self.old.arms other.now.arms }
         ensures quiet { self.new.quiet ≡ together self.old.quiet other.now.quiet }

@@ -34,6 +34,7 @@ impl Latest {
     }
 
     /// A step is noted.
+    #[inline(always)]
     pub(crate) fn note(&mut self, noted: &Noted)
         ensures { (own : List Noted) → IsLatest own self.old → IsLatest (noted.now ∷ own) self.new }
     {
@@ -42,6 +43,7 @@ impl Latest {
     }
 
     /// What a step itself says. Most say nothing, and then nothing is touched.
+    #[inline(always)]
     fn note_step(&mut self, noted: &Noted)
         ensures { self.new ≡ record self.old {
           named = option_or (spec.named noted.now) self.old.named;
@@ -57,6 +59,7 @@ impl Latest {
 
     /// What became of a watchpoint, where a step settles it. It is noted with the verdict, and not at the remove: then
     /// the halves that were heard need not be kept.
+    #[inline(always)]
     fn note_outcome(&mut self, noted: &Noted)
         ensures { self.new ≡ record self.old { became = option_or (spec.became noted.now) self.old.became } }
     {

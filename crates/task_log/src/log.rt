@@ -66,6 +66,7 @@ impl TaskLog {
 
     /// The next step is noted, an access, an arming or a taking only where there is room for it. What is reported at
     /// the step is answered.
+    #[inline(always)]
     pub fn note(&mut self, noted: &Noted) -> Option<Report>
         ensures keeps { (accesses watches : ℕ) (own : List Noted) → Keeps accesses watches own self.old
             → Keeps accesses watches (noted.now ∷ own) self.new }
@@ -82,6 +83,7 @@ impl TaskLog {
     }
 
     /// An arming that is removed and a taking that is told are over.
+    #[inline(always)]
     fn over(&mut self, noted: &Noted)
         ensures arms { (own : List Noted) → IsLatest own self.old.latest → CountsBySite self.old.arms.items self.old.armings.sites.items
             → HasRoomToRemove noted.now.step self.old → self.new.arms.items ≡ arms_at noted.now.step own self.old.arms.items }
@@ -102,6 +104,7 @@ impl TaskLog {
     }
 
     /// The watchpoint that the task set up is removed.
+    #[inline(always)]
     fn removes(&mut self, index: usize)
         ensures arms { (own : List Noted) → IsLatest own self.old.latest → CountsBySite self.old.arms.items self.old.armings.sites.items
             → vec_len self.old.arms < vec_capacity self.old.arms
@@ -125,6 +128,7 @@ impl TaskLog {
     }
 
     /// The setter of the watchpoint that the task took is told the ticket.
+    #[inline(always)]
     fn tells(&mut self, index: usize, ticket: u32, setter: u32)
         ensures takes { vec_len self.old.takes < vec_capacity self.old.takes
             → self.new.takes.items ≡ self.old.takes.items ++ record { finder = ticket; index = index; setter = setter } ∷ [] }
@@ -137,6 +141,7 @@ impl TaskLog {
     }
 
     /// What is reported at a step.
+    #[inline(always)]
     fn reported(&self, noted: &Noted) -> Option<Report>
         ensures { (accesses watches : ℕ) (own : List Noted) → Keeps accesses watches own self.now
             → result ≡ reported noted.now.outcome own }

@@ -22,6 +22,7 @@ pub struct Noted {
 
 impl Noted {
     /// The finder's half of a pair that was loaded, where there is none 0.
+    #[inline(always)]
     fn finder_heard(&self) -> u32
         ensures { result ≡ spec.finder_heard self.now.step self.now.answer }
     {
@@ -32,6 +33,7 @@ impl Noted {
     }
 
     /// What became of a watchpoint on which a verdict falls by this step.
+    #[inline(always)]
     pub(crate) fn became(&self) -> Option<ArmOutcome>
         ensures { result ≡ spec.became self.now }
     {
@@ -51,6 +53,7 @@ impl Noted {
     }
 
     /// The setter that was told, where this step tells it, else 0.
+    #[inline(always)]
     pub(crate) fn setter_told(&self) -> u32
         ensures { result ≡ setter_told self.now.outcome }
     {

@@ -54,6 +54,7 @@ fn end_newest(touches: &mut [Touch], stamp: u64)
 }
 
 /// A step is noted among the accesses. One that begins where there is no room for it isn't kept.
+#[inline(always)]
 pub(crate) fn note(touches: &mut Vec<Touch>, noted: &Noted)
     ensures items { HasRoomToBegin noted.now.step noted.now.answer noted.now.begins (vec_len touches.old) (vec_capacity touches.old)
         → touches.new.items ≡ touches_at noted.now.step noted.now.answer noted.now.begins touches.old.items }

@@ -71,6 +71,7 @@ impl Progress {
     }
 
     /// The values of the registers, by number.
+    #[inline(always)]
     pub fn registers(&self) -> &[u64]
         ensures { (variables : ℕ) (before : Standing) → Keeps variables before self.now → result.now ≡ before.progress.registers }
     {
@@ -78,6 +79,7 @@ impl Progress {
     }
 
     /// A register gets a value; one that isn't there has none.
+    #[inline(always)]
     pub fn assign(&mut self, register: usize, value: u64)
         ensures keeps { (variables : ℕ) (before : Standing) (later : List Record) → Keeps variables before self.old
             → Keeps variables (registered before later register value) self.new }
@@ -89,6 +91,7 @@ impl Progress {
     }
 
     /// How many accesses began at a site.
+    #[inline(always)]
     pub fn begun_at(&self, site: usize) -> u64
         ensures { (variables : ℕ) (before : Standing) → Keeps variables before self.now
             → result ≡ up_to_last (count_by (begins_at site) before.progress.did) }
@@ -100,6 +103,7 @@ impl Progress {
     }
 
     /// An access of a site begins.
+    #[inline(always)]
     pub fn begins_at(&mut self, site: usize)
         requires { site < 256 }
         ensures keeps { (variables : ℕ) (before : Standing) (a : Access) (later : List Record) → Keeps variables before self.old
@@ -112,6 +116,7 @@ impl Progress {
     }
 
     /// The task has the lock of this variable.
+    #[inline(always)]
     pub fn has_lock(&self, variable: usize) -> bool
         ensures { (variables : ℕ) (before : Standing) → Keeps variables before self.now
             → result ≡ has_lock variable before.progress.did }
@@ -123,6 +128,7 @@ impl Progress {
     }
 
     /// The task takes the lock of this variable, or gives it back.
+    #[inline(always)]
     pub fn set_lock(&mut self, variable: usize, held: bool)
         ensures keeps { (variables : ℕ) (before : Standing) (later : List Record) → Keeps variables before self.old → variable < variables
             → Keeps variables (doing before later ((if held then Lock variable else Unlock variable) ∷ [])) self.new }
@@ -134,6 +140,7 @@ impl Progress {
     }
 
     /// How many calls had nothing to end; counted up to the last number that there is.
+    #[inline(always)]
     pub fn unbalanced(&self) -> u64
         ensures { (variables : ℕ) (before : Standing) → Keeps variables before self.now → result ≡ up_to_last before.unbalanced }
     {
@@ -141,6 +148,7 @@ impl Progress {
     }
 
     /// A call had nothing to end.
+    #[inline(always)]
     pub fn counts_unbalanced(&mut self)
         ensures keeps { (variables : ℕ) (before : Standing) → Keeps variables before self.old
             → Keeps variables (counting true before) self.new }

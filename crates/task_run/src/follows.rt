@@ -18,6 +18,7 @@ use task_plan::{Taker, Then};
 
 impl<'a> Machine<'a> {
     /// An access is over, of which this came.
+    #[inline(always)]
     pub(crate) fn follows(&mut self, after: Then<'a>, effect: Effect)
         ensures stands { (s : Setting) (before : List Record → Standing) → StandsBy s before self.old → IsRead (follow_of after.entry) effect
             → EndsAtOnce s (FollowLeft s self.old.walk (follow_of after.entry) effect) before self.new }

@@ -154,6 +154,7 @@ impl<'a> Machine<'a> {
     }
 
     /// A KCSAN call is made. One that has nothing to end is counted.
+    #[inline(always)]
     pub(crate) fn marks(&mut self, mark: Mark) -> Result<(), Beyond>
         ensures stands { OnOk result ((s : Setting) (before : Standing) → Stands s before self.old
             → (ends_nothing : Bool) × (IsTrue ends_nothing ↔ EndsNothing s before mark)

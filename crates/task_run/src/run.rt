@@ -161,6 +161,7 @@ impl<'a> TaskRun<'a> {
     }
 
     /// The step that the task makes next; none where its text is over, or a wait of it is stuck.
+    #[inline(always)]
     pub fn next(&self) -> Option<Step>
         ensures says { IfSome result (λ step. Says self.now step) }
         ensures only { (s : Setting) (registers : ℕ) (body : Block) (records : List Record) → Leads s registers body records self.now
@@ -196,6 +197,7 @@ impl<'a> TaskRun<'a> {
     }
 
     /// A wait of the task had as many failed tries as the rules allow. Its own count tells, so no step is worked out.
+    #[inline(always)]
     pub fn stuck(&self) -> bool
         ensures stage { (s : Setting) (registers : ℕ) (body : Block) (records : List Record)
             → (leads : Leads s registers body records self.now)
@@ -216,6 +218,7 @@ impl<'a> TaskRun<'a> {
     }
 
     /// The task has made the steps of its whole text. Its stage tells, so no step is worked out.
+    #[inline(always)]
     pub fn is_over(&self) -> bool
         ensures { (s : Setting) (registers : ℕ) (body : Block) (records : List Record) → Leads s registers body records self.now
             → BlockScopes 0 body → block_rises body ≤ 2 ^ 32 → (IsTrue result ↔ SpellsAll s registers body records) }
@@ -224,6 +227,7 @@ impl<'a> TaskRun<'a> {
     }
 
     /// The access that begins with the next step, if one does, with what is decided of it.
+    #[inline(always)]
     pub fn begins(&self) -> Option<Begun>
         ensures { (s : Setting) (registers : ℕ) (body : Block) (records : List Record) → (leads : Leads s registers body records self.now)
             → (later : List Record) → BeginsNext s leads.part (stands_at leads later) leads.mine result }
@@ -240,6 +244,7 @@ impl<'a> TaskRun<'a> {
     }
 
     /// Takes the answer of its step, which the caller has of `next`: so it isn't worked out again.
+    #[inline(always)]
     pub fn answer(&mut self, step: Step, answer: Answer)
         requires says { Says self.old step }
         requires answers { Answers step answer }
@@ -272,6 +277,7 @@ impl<'a> TaskRun<'a> {
     }
 
     /// The outcome that fell at the last answer, if one did.
+    #[inline(always)]
     pub fn last_outcome(&self) -> Option<Outcome>
         ensures { result ≡ fell_of self.now }
     {
@@ -279,6 +285,7 @@ impl<'a> TaskRun<'a> {
     }
 
     /// What the next step is, which is this one: `next` says it.
+    #[inline(always)]
     pub fn before(&self, step: Step) -> Before
         requires { Says self.now step }
         ensures { (s : Setting) (registers : ℕ) (body : Block) (records : List Record) → (leads : Leads s registers body records self.now)
@@ -289,6 +296,7 @@ impl<'a> TaskRun<'a> {
     }
 
     /// What the last step was.
+    #[inline(always)]
     pub fn after(&self) -> After
         ensures { (steps : List Stepped) → HasMade steps self.now → result ≡ last_was steps }
     {
@@ -296,6 +304,7 @@ impl<'a> TaskRun<'a> {
     }
 
     /// What is to be kept of the last steps once this one is made, which is the next.
+    #[inline(always)]
     fn latest(&self, step: Step) -> Latest
         ensures { (s : Setting) (registers : ℕ) (body : Block) (records : List Record) → (leads : Leads s registers body records self.now)
             → (begins : Option Begun) (steps : List Stepped)
@@ -307,6 +316,7 @@ impl<'a> TaskRun<'a> {
 
     /// An access takes the answer where it stands, and what fell is told, with what is to be kept of the last steps.
     /// Once the access is over, what follows on it is done.
+    #[inline(always)]
     fn answers_access(&mut self, answer: Answer, latest: Latest)
         requires making { (run : accesses.AccessRun) × (after : Then) × (self.old.stage ≡ Making run after) }
         requires says { (step : Step) × Says self.old step × Answers step answer }
@@ -335,6 +345,7 @@ impl<'a> TaskRun<'a> {
 
     /// The check of a scoped assertion takes the answer, and what fell is told. Once it is over, the assertion is in
     /// force, or no longer.
+    #[inline(always)]
     fn answers_check(&mut self, answer: Answer) -> Option<Outcome>
         requires checking { (self.old.stage ≡ Opening) ⊎ (self.old.stage ≡ Closing) }
         requires says { (step : Step) × Says self.old step × Answers step answer }
@@ -354,6 +365,7 @@ impl<'a> TaskRun<'a> {
     }
 
     /// The wait for a lock takes the answer where it stands. Once it is over, the task has the lock.
+    #[inline(always)]
     fn answers_lock(&mut self, answer: Answer)
         requires locking { (wait : locks.LockWait) × (variable : ℕ) × (self.old.stage ≡ Locking wait variable) }
         requires says { (step : Step) × Says self.old step × Answers step answer }
@@ -372,6 +384,7 @@ impl<'a> TaskRun<'a> {
     }
 
     /// The lock is given back.
+    #[inline(always)]
     fn answers_unlock(&mut self, variable: usize)
         ensures leads { self.old.stage ≡ Unlocking variable → LeadsOn self.old self.new Done }
         ensures room { room_of self.new.machine ≡ room_of self.old.machine }

@@ -10,6 +10,7 @@ use access_types::{Access, ValueChange};
 /// What the old and the new value of an access's bytes say of a change, or what is said where none
 /// were loaded. The mask of an access has a bit, since `Access::new_rep` makes one without a bit
 /// none.
+#[inline(always)]
 pub fn change(access: &Access, values: Option<(u64, u64)>) -> Change
     ensures seen { (result ≡ Change.Seen) ↔ IsSeen access.now values }
     ensures ruled { (result ≡ Change.Ruled)
@@ -27,6 +28,7 @@ pub fn change(access: &Access, values: Option<(u64, u64)>) -> Change
 }
 
 /// The old and the new value, where a change was seen.
+#[inline(always)]
 pub fn seen_change(change: Change, values: Option<(u64, u64)>) -> Option<ValueChange>
     ensures { result ≡ seen_values change values }
 {
@@ -37,6 +39,7 @@ pub fn seen_change(change: Change, values: Option<(u64, u64)>) -> Option<ValueCh
 }
 
 /// The two values differ in a bit of the mask, or in any bit where there is none.
+#[inline(always)]
 fn differ(mask: Option<u64>, old: u64, new: u64) -> bool
     ensures { IsTrue result ↔ BitDiffers mask old new }
 {

@@ -45,6 +45,7 @@ pub enum Verdict {
 /// is never `Reason::Encoding`. With `value_change_only`, as by KCSAN's option of this name, a hit
 /// is reported only where a change was seen; but an access of more than 8 bytes is taken to have
 /// changed, and an assertion is about accesses and not about values.
+#[inline(always)]
 pub fn judge(change: Change, setter: &Access, taken: bool, value_change_only: bool) -> Verdict
     ensures verdict { VerdictOf setter.now taken change value_change_only result }
     ensures not_encoding { result ≢ Verdict.Drop Reason.Encoding }

@@ -14,6 +14,7 @@ pub enum Layout {
 
 impl Layout {
     /// How many addresses the address field tells apart.
+    #[inline(always)]
     pub(crate) fn address_span(self) -> u64
         ensures { result ≡ spec.address_span self }
     {
@@ -24,6 +25,7 @@ impl Layout {
     }
 
     /// The word with the write bit alone.
+    #[inline(always)]
     pub(crate) fn write_bit(self) -> u64
         ensures { result ≡ spec.write_bit self }
     {

@@ -34,6 +34,7 @@ pub struct Watch {
 /// The word of the access, or `None` if it can't be watched: its address is below `PAGE_SIZE`, or
 /// its size is 0 or above `MAX_ENCODABLE_SIZE`.
 #[tactic(auto, unfolding(crate::specs::Word::word_of, crate::specs::Word::watch_in, crate::specs::Layout::masked))]
+#[inline(always)]
 pub fn encode_in(layout: Layout, access: &Access) -> Option<u64>
     ensures encodable { IsSome result ↔ Encodable access.now }
     ensures word { IfSome result (WordOf layout access.now) }
@@ -56,6 +57,7 @@ pub fn encode_in(layout: Layout, access: &Access) -> Option<u64>
 /// What the word says, or `None` if it is the word of no access: its size is 0, as in the empty and
 /// in the consumed word, or above `MAX_ENCODABLE_SIZE`, or it has bits above the layout's.
 #[tactic(auto, unfolding(crate::specs::Word::watch_in, crate::specs::Layout::masked))]
+#[inline(always)]
 pub fn decode_in(layout: Layout, word: u64) -> Option<Watch>
     ensures watch_word { IsSome result ↔ IsWatchWord layout word }
     ensures watch { IfSome result (Watches layout word) }
@@ -80,6 +82,7 @@ pub fn decode_in(layout: Layout, word: u64) -> Option<Watch>
 /// Ranges do not wrap where these bits do, so an access whose range passes such a point can be
 /// missed, and one far away can be taken for it.
 #[tactic(auto, unfolding(crate::specs::Layout::masked))]
+#[inline(always)]
 pub fn matches_in(layout: Layout, watch: &Watch, addr: u64, size: u64) -> bool
     requires has_bytes { 0 < size }
     requires range { addr + size ≤ 2 ^ 63 }

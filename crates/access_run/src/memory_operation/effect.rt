@@ -15,6 +15,7 @@ pub struct Effect {
 
 impl Effect {
     /// Nothing was read and nothing written.
+    #[inline(always)]
     pub(crate) fn nothing() -> Effect
         ensures { result ≡ spec.nothing }
     {
@@ -25,6 +26,7 @@ impl Effect {
     }
 
     /// A value was read.
+    #[inline(always)]
     pub(crate) fn only_read(old: u64) -> Effect
         ensures { result ≡ spec.only_read old }
     {
@@ -35,6 +37,7 @@ impl Effect {
     }
 
     /// A change was made where the bytes, so many, held `old`. A write reads nothing.
+    #[inline(always)]
     pub(crate) fn changed(size: u64, change: Change, old: u64) -> Effect
         ensures { result ≡ spec.changed size change old }
     {
@@ -47,6 +50,7 @@ impl Effect {
     }
 
     /// What comes of this and of what is later.
+    #[inline(always)]
     pub(crate) fn and_then(self, later: Effect) -> Effect
         ensures { result ≡ spec.and_then self later }
     {

@@ -33,6 +33,7 @@ impl LockWait {
     }
 
     /// The task has the lock.
+    #[inline(always)]
     pub fn is_taken(&self) -> bool
         ensures records { (task lock : ℕ) (records : List Record) → LockLeads task lock records self.now
             → (IsTrue result ↔ TakesLock task lock records []) }
@@ -43,6 +44,7 @@ impl LockWait {
     }
 
     /// The lock was refused so often as failed tries are allowed.
+    #[inline(always)]
     pub fn stuck(&self, turns: u64) -> bool
         ensures { (task lock : ℕ) (records : List Record) → LockLeads task lock records self.now
             → (IsTrue result ↔ IsStuckAtLock turns task lock records) }
@@ -54,6 +56,7 @@ impl LockWait {
     }
 
     /// The step that the task makes next; none where it has the lock or is stuck.
+    #[inline(always)]
     pub fn next(&self, turns: u64) -> Option<Step>
         ensures says { IfSome result (λ step. LockSays self.now step) }
         ensures only { (task lock : ℕ) (records : List Record) → LockLeads task lock records self.now
@@ -68,6 +71,7 @@ impl LockWait {
     }
 
     /// Takes the answer of the step.
+    #[inline(always)]
     pub fn answer(&mut self, answer: Answer)
         requires { (step : Step) × LockSays self.old step × Answers step answer }
         ensures { (task lock : ℕ) (records : List Record) (step : Step)

@@ -47,6 +47,7 @@ impl OperationRun {
     }
 
     /// An exchange was refused, and so were all after it, so often as failed tries are allowed.
+    #[inline(always)]
     pub fn stuck(&self, turns: u64) -> bool
         ensures { (task : ℕ) (a : accesses.Access) (source : Source) (operation : Operation) (records : List Record)
             → Leads task a source operation records self.now
@@ -60,6 +61,7 @@ impl OperationRun {
     }
 
     /// It is over.
+    #[inline(always)]
     pub fn is_over(&self) -> bool
         ensures { (task : ℕ) (a : accesses.Access) (source : Source) (operation : Operation) (records : List Record)
             → Leads task a source operation records self.now
@@ -69,6 +71,7 @@ impl OperationRun {
     }
 
     /// The step that the task makes next; none where the operation is over or stuck.
+    #[inline(always)]
     pub fn next(&self, turns: u64) -> Option<Step>
         ensures says { IfSome result (λ step. Says self.now step) }
         ensures only { (task : ℕ) (a : accesses.Access) (source : Source) (operation : Operation) (records : List Record)
@@ -85,6 +88,7 @@ impl OperationRun {
     }
 
     /// Takes the answer of the step.
+    #[inline(always)]
     pub fn answer(&mut self, answer: Answer)
         requires { (step : Step) × Says self.old step × Answers step answer }
         ensures { (task : ℕ) (a : accesses.Access) (source : Source) (operation : Operation) (records : List Record) (step : Step)
@@ -97,6 +101,7 @@ impl OperationRun {
     }
 
     /// What came of it so far.
+    #[inline(always)]
     pub fn effect(&self) -> Effect
         ensures so_far { (task : ℕ) (a : accesses.Access) (source : Source) (operation : Operation) (records : List Record)
             → Leads task a source operation records self.now → result ≡ did a source operation records }

@@ -38,6 +38,7 @@ pub struct Transition {
 
 impl Transition {
     /// The step was the last one.
+    #[inline(always)]
     fn over(effect: Effect) -> Transition
         ensures { result ≡ record { stage = OperationStage.Over; effect = effect } }
     {
@@ -50,6 +51,7 @@ impl Transition {
 
 impl OperationStage {
     /// The step that it makes next.
+    #[inline(always)]
     pub(crate) fn step(self, access: &Access, source: Source) -> Option<Step>
         requires has_bytes { 0 < access.now.size }
         requires in_cell { source.first + access.now.size ≤ 8 }
@@ -68,6 +70,7 @@ impl OperationStage {
     }
 
     /// Takes the answer.
+    #[inline(always)]
     pub(crate) fn answer(self, access: &Access, source: Source, answer: Answer) -> Transition
         requires { (step : steps.Step) × (stage_step access.now source self ≡ Some step) × Answers step answer }
         ensures { (task : ℕ) (step : steps.Step) → stage_step access.now source self ≡ Some step
@@ -92,6 +95,7 @@ impl OperationStage {
 
 /// The cell was loaded. A compound assignment has its value now, and loads the cell again to put it
 /// there.
+#[inline(always)]
 fn loaded(access: &Access, source: Source, operation: Operation, word: u64) -> Transition
     ensures { result ≡ loaded_turn access.now source operation word }
 {
@@ -112,6 +116,7 @@ fn loaded(access: &Access, source: Source, operation: Operation, word: u64) -> T
 /// A change was shown a word, after so many failed tries. It goes on from this word, so that it
 /// takes nothing back that others have written since; a `cmpxchg` that sees another value than the
 /// expected one has only read.
+#[inline(always)]
 fn shown(access: &Access, source: Source, change: Change, word: u64, tries: u64) -> Transition
     ensures { result ≡ shown_turn access.now source change word tries }
 {

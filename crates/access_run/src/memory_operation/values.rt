@@ -11,6 +11,7 @@ use setup_access::values::value_in;
 
 /// The word with a value in the place of the access's bytes, which can hold it. Its other bytes
 /// stay.
+#[inline(always)]
 pub(crate) fn with_value(access: &Access, source: Source, word: u64, value: u64) -> u64
     requires has_bytes { 0 < access.now.size }
     requires in_cell { source.first + access.now.size ≤ 8 }
@@ -22,6 +23,7 @@ pub(crate) fn with_value(access: &Access, source: Source, word: u64, value: u64)
 }
 
 /// The sum of a value of so many bytes, with its sign, and an amount.
+#[inline(always)]
 pub(crate) fn sum_of(size: u64, old: u64, amount: u64) -> u64
     ensures { result ≡ spec.sum_of size old amount }
 {
@@ -29,6 +31,7 @@ pub(crate) fn sum_of(size: u64, old: u64, amount: u64) -> u64
 }
 
 /// The value that a change gives so many bytes, which hold `old`: what they can hold of it.
+#[inline(always)]
 pub(crate) fn new_value(size: u64, change: Change, old: u64) -> u64
     ensures value { result ≡ spec.new_value size change old }
     ensures held { result < 2 ^ (8 * size) }
@@ -43,6 +46,7 @@ pub(crate) fn new_value(size: u64, change: Change, old: u64) -> u64
 
 /// Whether a change is made where the bytes, so many, hold `old`: a `cmpxchg` only where that is
 /// what they can hold of the expected value.
+#[inline(always)]
 pub(crate) fn is_wanted(size: u64, change: Change, old: u64) -> bool
     ensures { result ≡ spec.is_wanted size change old }
 {

@@ -16,6 +16,7 @@ pub enum ProbeIndex {
 impl ProbeIndex {
     /// The index of a look-up. The first is the page slot, though insertions begin at the index behind it: not to look
     /// there first is fine, since races are rare and the indices are the same (core.c at SLOT_IDX_FAST).
+    #[inline(always)]
     pub fn of_look_up(self, slot: usize) -> usize
         requires { slot ≤ 1023 }
         ensures { result ≡ look_index self slot }
@@ -30,6 +31,7 @@ impl ProbeIndex {
 
     /// The index of an insertion. The first is the one behind the page slot, so that look-ups from the page
     /// before and from the page after meet it too.
+    #[inline(always)]
     pub fn of_insertion(self, slot: usize) -> usize
         requires { slot ≤ 1023 }
         ensures { result ≡ try_index self slot }
@@ -42,6 +44,7 @@ impl ProbeIndex {
         }
     }
 
+    #[inline(always)]
     pub fn after(self) -> Option<ProbeIndex>
         ensures { result ≡ place_after self }
     {
