@@ -1,9 +1,7 @@
 -- What the tables of the program's arguments say.
 use Rattle.std.specs.Prelude.{◌∷◌, [], Bool, ℕ, List, Option, None, Some, false, fold, true}
 use Rattle.std.specs.Borrow.{Bor}
-use Rattle.clap.specs.Words.{App, Rule, Text, new_rule, with_rule}
-use Rattle.clap.specs.declared.builder.action.ArgAction.{ArgAction}
-use Rattle.clap.specs.declared.builder.action.ArgAction.TheVariants.{Append, Set, SetTrue}
+use Rattle.clap.specs.Words.{App, Rule, Text, with_rule}
 use Rattle.clap.specs.declared.builder.value_parser.ValueParser.{ValueParser}
 use Rattle.clap.specs.declared.builder.value_parser.ValueParser.TheVariants as values
 use Rattle.cli.specs.declared.arguments.Entry.{Entry}
@@ -12,22 +10,16 @@ use Rattle.cli.specs.declared.arguments.Kind.{Kind}
 use Rattle.cli.specs.declared.arguments.Kind.TheVariants as kinds
 use Rattle.cli.specs.declared.arguments.NameList.{NameList}
 use Rattle.cli.specs.declared.arguments.NameList.TheVariants as lists
-use Rattle.cli.specs.declared.arguments.Takes.{Takes}
-use Rattle.cli.specs.declared.arguments.Takes.TheVariants as takings
+use Rattle.cli.specs.declared.arguments.Words.{Words}
+use Rattle.cli.specs.declared.arguments.Words.TheVariants as counts
 use Rattle.cli.specs.declared.program.Names.{Names}
+use Rattle.cli.specs.Words.{flag_rule, some_words_rule, text_rule, word_rule, words_rule}
 
--- whether an argument has to be there
-abbrev pub is_needed : Takes → Bool
-is_needed (takings.Words needed several) = needed
-is_needed takings.Nothing = false
-is_needed (takings.Value value kind default) = false
-
--- what becomes of the values that an argument takes
-abbrev pub action_of : Takes → ArgAction
-action_of (takings.Words needed true) = Append
-action_of (takings.Words needed false) = Set
-action_of takings.Nothing = SetTrue
-action_of (takings.Value value kind default) = Set
+-- the rule of an argument that takes words: one, one at least, or any number
+abbrev pub words_rule_of : Words → Text → Rule
+words_rule_of counts.One = word_rule
+words_rule_of counts.Several = some_words_rule
+words_rule_of counts.Any = words_rule
 
 -- the names of a list
 abbrev pub listed : Names → NameList → Bor (List (Bor Text))
@@ -38,7 +30,7 @@ listed names lists.Choices = names.choices
 
 -- what checks a value of a kind, if something does
 abbrev pub parser_of : Names → Kind → Option ValueParser
-parser_of names kinds.Text = None
+parser_of names (kinds.Text value) = None
 parser_of names (kinds.Number bounds) = Some (values.Unsigned bounds.0 bounds.1)
 parser_of names (kinds.Name list) = Some (values.Names (listed names list))
 
@@ -57,19 +49,13 @@ abbrev pub with_letter : Option ℕ → Rule → Rule
 with_letter None rule = rule
 with_letter (Some letter) rule = record rule { short = Some letter }
 
--- as an option, unless it takes words
-abbrev pub shaped : Names → Text → Takes → Rule → Rule
-shaped names name (takings.Words needed several) rule = rule
-shaped names name takings.Nothing rule = record rule { long = Some name }
-shaped names name (takings.Value value kind default) rule =
-    with_default default (with_parser (parser_of names kind) (record rule { long = Some name; value_names = 1 }))
-
 -- a command with an entry of its table
 abbrev pub with_entry : Names → App → Entry → App
 with_entry names app (entries.Heading heading) = app
-with_entry names app (entries.Argument name letter takes help) =
-    with_rule app (with_letter letter (shaped names name.now takes
-    (record (new_rule name.now) { required = is_needed takes; action = Some (action_of takes) })))
+with_entry names app (entries.Words name words help) = with_rule app (words_rule_of words name.now)
+with_entry names app (entries.Flag name help) = with_rule app (flag_rule name.now)
+with_entry names app (entries.Value name letter kind default help) =
+    with_rule app (with_letter letter (with_default default (with_parser (parser_of names kind) (text_rule name.now))))
 
 -- and with all of them
 unfoldable pub with_entries : Names → App → List Entry → App

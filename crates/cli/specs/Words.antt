@@ -75,9 +75,9 @@ free_name_rule name names = record (text_rule name) { parser = Some (values.Name
 abbrev pub name_rule : Text → Bor (List (Bor Text)) → (text : Text) → Rule
 name_rule name names text = record (free_name_rule name names) { defaults = text ∷ [] }
 
--- an option that goes by a letter too
-abbrev pub lettered : (letter : ℕ) → Rule → Rule
-lettered letter rule = record rule { short = Some letter }
+-- an option that also goes by a letter
+abbrev pub short_rule : (letter : ℕ) → Rule → Rule
+short_rule letter rule = record rule { short = Some letter }
 
 -- a command, also with the settings of a run: the places, what a wait takes, and those of KCSAN
 unfoldable pub with_settings : App → Names → App
@@ -99,14 +99,14 @@ with_settings app names =
 -- wanted, and the trace
 unfoldable pub with_options : App → Names → App
 with_options app names =
-    with_rule (with_rule (with_settings app names) (flag_rule (codes "where"))) (lettered 111 (text_rule (codes "trace")))
+    with_rule (with_rule (with_settings app names) (flag_rule (codes "where"))) (short_rule 111 (text_rule (codes "trace")))
 
 -- `step`, with its file, its schedule and those options
 unfoldable pub step_app : Names → App
 step_app names =
     with_options (with_rule (with_rule (new_app (codes "step"))
     (word_rule (codes "FILE")))
-    (lettered 115 (default_rule (codes "schedule") []))) names
+    (short_rule 115 (default_rule (codes "schedule") []))) names
 
 -- `run`, with its file, how many runs there are, the delay of a watch, how many runs are made side by side, where they
 -- end, and those options
@@ -114,7 +114,7 @@ unfoldable pub run_app : Names → App
 run_app names =
     with_options (with_rule (with_rule (with_rule (with_rule (with_rule (with_rule (new_app (codes "run"))
     (word_rule (codes "FILE")))
-    (lettered 114 (number_rule (codes "runs") 1 100000 (codes "100"))))
+    (short_rule 114 (number_rule (codes "runs") 1 100000 (codes "100"))))
     (number_rule (codes "delay") 0 1000000 (codes "64")))
     (number_rule (codes "jobs") 1 64 (codes "1")))
     (flag_rule (codes "stop-at-first")))
@@ -153,7 +153,7 @@ replay_app = with_rule (new_app (codes "replay")) (word_rule (codes "TRACE"))
 unfoldable pub show_app : App
 show_app = with_rule (with_rule (with_rule (new_app (codes "show"))
     (word_rule (codes "TRACE")))
-    (lettered 111 (text_rule (codes "svg"))))
+    (short_rule 111 (text_rule (codes "svg"))))
     (flag_rule (codes "ascii"))
 
 -- `check`, with its files, whether the printed form is wanted, whether the calls that are read are, and the options by
@@ -164,7 +164,7 @@ check_app names =
     (words_rule (codes "FILE")))
     (flag_rule (codes "print")))
     (flag_rule (codes "calls")))
-    (lettered 115 (default_rule (codes "schedule") [])))
+    (short_rule 115 (default_rule (codes "schedule") [])))
     (default_rule (codes "place") []))
     (number_rule (codes "slots") 3 1024 (codes "64")))
     (name_rule (codes "word") names.sizes (codes "64"))

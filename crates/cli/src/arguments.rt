@@ -1,8 +1,8 @@
 //! The arguments of a command as the entries of a table, and what clap makes of them.
 
 ghost use Rattle.std.specs.Prelude.{◌≡◌, IfOk, Option, Some};
-ghost use Rattle.cli.specs.Tables.{action_of, is_needed, listed, parser_of, shaped, with_default, with_entries, with_entry, with_letter, with_parser};
-ghost use Rattle.cli.specs.Words.{IsArg};
+ghost use Rattle.cli.specs.Tables.{listed, parser_of, with_default, with_entries, with_entry, with_letter, with_parser, words_rule_of};
+ghost use Rattle.cli.specs.Words.{IsArg, text_rule};
 ghost use Rattle.clap.specs.Words.{App, Rule, app_of, new_rule};
 
 use crate::help::Help;
@@ -16,31 +16,31 @@ use std::alloc::{AllocError, Global};
 pub enum Entry {
     /// The heading under which help lists the arguments behind it.
     Heading(&'static str),
-    /// An argument: its name, the letter that it also goes by, what it takes, and what help says of it.
-    Argument(&'static str, Option<char>, Takes, Help),
+    /// An argument that is no option: its name, how many words it takes, and what help says of it.
+    Words(&'static str, Words, Help),
+    /// An option that stands alone: its name, and what help says of it.
+    Flag(&'static str, Help),
+    /// An option with a value: its name, the letter that it also goes by, what the value has to be, what it is where
+    /// the option isn't given, and what help says of it.
+    Value(&'static str, Option<char>, Kind, Option<&'static str>, Help),
 }
 
-/// What an argument takes.
+/// How many words an argument takes.
 #[derive(Clone, Copy)]
-pub enum Takes {
-    /// Words: the argument is no option.
-    Words {
-        /// Whether there has to be one.
-        needed: bool,
-        /// Whether there may be several.
-        several: bool,
-    },
-    /// Nothing: the option stands alone.
-    Nothing,
-    /// A value: what help calls it, what it has to be, and what it is where the option isn't given.
-    Value(&'static str, Kind, Option<&'static str>),
+pub enum Words {
+    /// One.
+    One,
+    /// One at least.
+    Several,
+    /// Any number, or none.
+    Any,
 }
 
 /// What a value has to be.
 #[derive(Clone, Copy)]
 pub enum Kind {
-    /// Any text.
-    Text,
+    /// Any text, which help calls so.
+    Text(&'static str),
     /// A number within these bounds.
     Number((u64, u64)),
     /// One of the names of a list. What help says of the option has them.
@@ -88,69 +88,57 @@ fn with_entry<'a>(
 {
     match *entry {
         Entry::Heading(heading) => Ok(command.next_help_heading(heading)),
-        Entry::Argument(name, letter, takes, help) => {
-            let argument = explained(alloc, name, takes, help);
-            command.arg(lettered(shaped(argument, name, takes, names), letter))
+        Entry::Words(name, words, help) => command.arg(words_argument(alloc, name, words, help)),
+        Entry::Flag(name, help) => {
+            command.arg(explained(alloc, name, ArgAction::SetTrue, help).long(name))
+        }
+        Entry::Value(name, letter, kind, default, help) => {
+            let option = with_parser(valued(alloc, name, kind, help), parser_of(kind, names));
+            command.arg(with_letter(defaulted(option, default), letter))
         }
     }
 }
 
 /// An argument with what help says of it, and with what becomes of the values that it takes.
-fn explained<'a>(alloc: Global, name: &'a str, takes: Takes, help: Help) -> Arg<'a>
-    ensures { IsArg (record (new_rule name.entry.now) { required = is_needed takes; action = Some (action_of takes) }) result }
+fn explained<'a>(alloc: Global, name: &'a str, action: ArgAction, help: Help) -> Arg<'a>
+    ensures { IsArg (record (new_rule name.entry.now) { action = Some action }) result }
 {
     Arg::new(alloc, name)
         .help(help.brief)
         .long_help(help.full)
-        .required(is_needed(takes))
-        .action(action_of(takes))
+        .action(action)
 }
 
-/// Whether an argument has to be there.
-fn is_needed(takes: Takes) -> bool
-    ensures { result ≡ is_needed takes }
+/// An argument that takes words, and is no option.
+fn words_argument<'a>(alloc: Global, name: &'a str, words: Words, help: Help) -> Arg<'a>
+    ensures { IsArg (words_rule_of words name.entry.now) result }
 {
-    match takes {
-        Takes::Words { needed, .. } => needed,
-        _ => false,
+    match words {
+        Words::One => explained(alloc, name, ArgAction::Set, help).required(true),
+        Words::Several => explained(alloc, name, ArgAction::Append, help).required(true),
+        Words::Any => explained(alloc, name, ArgAction::Append, help),
     }
 }
 
-/// What becomes of the values that an argument takes.
-fn action_of(takes: Takes) -> ArgAction
-    ensures { result ≡ action_of takes }
+/// An option that takes a value of a kind. What help says of the option has the names that the value can be.
+fn valued<'a>(alloc: Global, name: &'a str, kind: Kind, help: Help) -> Arg<'a>
+    ensures { IsArg (text_rule name.entry.now) result }
 {
-    match takes {
-        Takes::Words { several: true, .. } => ArgAction::Append,
-        Takes::Nothing => ArgAction::SetTrue,
-        _ => ArgAction::Set,
-    }
-}
-
-/// An argument of this name, as an option, unless it takes words.
-fn shaped<'a>(argument: Arg<'a>, name: &'a str, takes: Takes, names: Names) -> Arg<'a>
-    ensures { (rule : Rule) → IsArg rule argument.entry → IsArg (shaped names name.entry.now takes rule) result }
-{
-    match takes {
-        Takes::Words { .. } => argument,
-        Takes::Nothing => argument.long(name),
-        Takes::Value(value, kind, default) => {
-            let option = with_parser(valued(argument, name, value), parser_of(kind, names));
-            defaulted(option, default)
-        }
-    }
-}
-
-/// An option of this name that takes a value, which help calls by another name. What help says of the option has the
-/// names that the value can be.
-fn valued<'a>(argument: Arg<'a>, name: &'a str, value: &'a str) -> Arg<'a>
-    ensures { (rule : Rule) → IsArg rule argument.entry
-        → IsArg (record rule { long = Some name.entry.now; value_names = 1 }) result }
-{
-    argument
+    explained(alloc, name, ArgAction::Set, help)
         .long(name)
-        .value_name(value)
+        .value_name(called(kind))
         .hide_possible_values(true)
+}
+
+/// What help calls a value of a kind.
+fn called(kind: Kind) -> &'static str {
+    match kind {
+        Kind::Text(name) => name,
+        Kind::Number(_) => "N",
+        Kind::Name(NameList::Sizes) => "BITS",
+        Kind::Name(NameList::Choices) => "yes|no",
+        Kind::Name(_) => "FORMAT",
+    }
 }
 
 /// What checks a value of a kind, if something does.
@@ -158,7 +146,7 @@ fn parser_of<'a>(kind: Kind, names: Names) -> Option<ValueParser<'a>>
     ensures { result ≡ parser_of names kind }
 {
     match kind {
-        Kind::Text => None,
+        Kind::Text(_) => None,
         Kind::Number((low, high)) => Some(ValueParser::Unsigned(low, high)),
         Kind::Name(list) => Some(ValueParser::Names(listed(list, names))),
     }
@@ -199,7 +187,7 @@ fn defaulted<'a>(option: Arg<'a>, default: Option<&'a str>) -> Arg<'a>
 }
 
 /// An argument that also goes by a letter, if there is one.
-fn lettered<'a>(argument: Arg<'a>, letter: Option<char>) -> Arg<'a>
+fn with_letter<'a>(argument: Arg<'a>, letter: Option<char>) -> Arg<'a>
     ensures { (rule : Rule) → IsArg rule argument.entry → IsArg (with_letter letter rule) result }
 {
     match letter {

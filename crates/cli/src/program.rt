@@ -5,7 +5,8 @@ ghost use Rattle.cli.specs.Words.{AreNames, IsProgram, check_app, races_app, rep
 ghost use Rattle.cli.specs.Words.{with_options, with_settings};
 ghost use Rattle.clap.specs.Words.{App, app_of, new_app, with_subcommand};
 
-use crate::arguments::{Entry, Kind, NameList, Takes, with_entries};
+use crate::arguments::Kind::{Name, Number, Text};
+use crate::arguments::{Entry, NameList, Words, with_entries};
 use crate::help;
 use crate::version::VERSION;
 use clap::Command;
@@ -64,289 +65,129 @@ const KCSAN: &str = "KCSAN";
 
 /// The file and the options of `step` alone.
 static STEP_ENTRIES: [Entry; 3] = [
-    Entry::Argument(
-        "FILE",
-        None,
-        Takes::Words {
-            needed: true,
-            several: false,
-        },
-        help::FILE,
-    ),
+    Entry::Words("FILE", Words::One, help::FILE),
     Entry::Heading(RUN),
-    Entry::Argument(
-        "schedule",
-        Some('s'),
-        Takes::Value("S", Kind::Text, Some("")),
-        help::SCHEDULE,
-    ),
+    Entry::Value("schedule", Some('s'), Text("S"), Some(""), help::SCHEDULE),
 ];
 
 /// The file and the options of `run` alone.
 static RUN_ENTRIES: [Entry; 7] = [
-    Entry::Argument(
-        "FILE",
-        None,
-        Takes::Words {
-            needed: true,
-            several: false,
-        },
-        help::FILE,
-    ),
+    Entry::Words("FILE", Words::One, help::FILE),
     Entry::Heading(RUN),
-    Entry::Argument(
-        "runs",
-        Some('r'),
-        Takes::Value("N", Kind::Number(RUNS), Some("100")),
-        help::RUNS,
-    ),
-    Entry::Argument(
-        "delay",
-        None,
-        Takes::Value("N", Kind::Number(DELAY), Some("64")),
-        help::DELAY,
-    ),
-    Entry::Argument(
-        "jobs",
-        None,
-        Takes::Value("N", Kind::Number(JOBS), Some("1")),
-        help::JOBS,
-    ),
-    Entry::Argument("stop-at-first", None, Takes::Nothing, help::STOP_AT_FIRST),
-    Entry::Argument("keep-going", None, Takes::Nothing, help::KEEP_GOING),
+    Entry::Value("runs", Some('r'), Number(RUNS), Some("100"), help::RUNS),
+    Entry::Value("delay", None, Number(DELAY), Some("64"), help::DELAY),
+    Entry::Value("jobs", None, Number(JOBS), Some("1"), help::JOBS),
+    Entry::Flag("stop-at-first", help::STOP_AT_FIRST),
+    Entry::Flag("keep-going", help::KEEP_GOING),
 ];
 
 /// The files and the options of `search` alone.
 static SEARCH_ENTRIES: [Entry; 9] = [
-    Entry::Argument(
-        "FILE",
-        None,
-        Takes::Words {
-            needed: true,
-            several: true,
-        },
-        help::FILES,
-    ),
+    Entry::Words("FILE", Words::Several, help::FILES),
     Entry::Heading(OUTPUT),
-    Entry::Argument(
+    Entry::Value(
         "format",
         None,
-        Takes::Value("FORMAT", Kind::Name(NameList::SearchFormats), Some("text")),
+        Name(NameList::SearchFormats),
+        Some("text"),
         help::SEARCH_FORMAT,
     ),
-    Entry::Argument("settings", None, Takes::Nothing, help::SETTINGS),
+    Entry::Flag("settings", help::SETTINGS),
     Entry::Heading(SEARCH),
-    Entry::Argument(
-        "switches",
-        None,
-        Takes::Value("N", Kind::Text, Some("2")),
-        help::SWITCHES,
-    ),
-    Entry::Argument(
-        "limit",
-        None,
-        Takes::Value("N", Kind::Number(LIMIT), Some("1000000")),
-        help::LIMIT,
-    ),
-    Entry::Argument(
-        "seconds",
-        None,
-        Takes::Value("N", Kind::Number(SECONDS), None),
-        help::SECONDS,
-    ),
-    Entry::Argument(
-        "jobs",
-        None,
-        Takes::Value("N", Kind::Number(JOBS), Some("1")),
-        help::SEARCH_JOBS,
-    ),
+    Entry::Value("switches", None, Text("N"), Some("2"), help::SWITCHES),
+    Entry::Value("limit", None, Number(LIMIT), Some("1000000"), help::LIMIT),
+    Entry::Value("seconds", None, Number(SECONDS), None, help::SECONDS),
+    Entry::Value("jobs", None, Number(JOBS), Some("1"), help::SEARCH_JOBS),
 ];
 
 /// The files and the options of `races` alone.
 static RACES_ENTRIES: [Entry; 7] = [
-    Entry::Argument(
-        "FILE",
-        None,
-        Takes::Words {
-            needed: true,
-            several: true,
-        },
-        help::FILES,
-    ),
+    Entry::Words("FILE", Words::Several, help::FILES),
     Entry::Heading(OUTPUT),
-    Entry::Argument(
+    Entry::Value(
         "format",
         None,
-        Takes::Value("FORMAT", Kind::Name(NameList::Formats), Some("text")),
+        Name(NameList::Formats),
+        Some("text"),
         help::FORMAT,
     ),
     Entry::Heading(SEARCH),
-    Entry::Argument(
+    Entry::Value(
         "limit",
         None,
-        Takes::Value("N", Kind::Number(LIMIT), Some("1000000")),
+        Number(LIMIT),
+        Some("1000000"),
         help::RACES_LIMIT,
     ),
-    Entry::Argument(
-        "seconds",
-        None,
-        Takes::Value("N", Kind::Number(SECONDS), None),
-        help::RACES_SECONDS,
-    ),
-    Entry::Argument(
-        "jobs",
-        None,
-        Takes::Value("N", Kind::Number(JOBS), Some("1")),
-        help::RACES_JOBS,
-    ),
+    Entry::Value("seconds", None, Number(SECONDS), None, help::RACES_SECONDS),
+    Entry::Value("jobs", None, Number(JOBS), Some("1"), help::RACES_JOBS),
 ];
 
 /// The file of `replay`.
-static REPLAY_ENTRIES: [Entry; 1] = [Entry::Argument(
-    "TRACE",
-    None,
-    Takes::Words {
-        needed: true,
-        several: false,
-    },
-    help::REPLAYED,
-)];
+static REPLAY_ENTRIES: [Entry; 1] = [Entry::Words("TRACE", Words::One, help::REPLAYED)];
 
 /// The file and the options of `show`.
 static SHOW_ENTRIES: [Entry; 4] = [
-    Entry::Argument(
-        "TRACE",
-        None,
-        Takes::Words {
-            needed: true,
-            several: false,
-        },
-        help::REPLAYED,
-    ),
+    Entry::Words("TRACE", Words::One, help::REPLAYED),
     Entry::Heading(OUTPUT),
-    Entry::Argument(
-        "svg",
-        Some('o'),
-        Takes::Value("PATH", Kind::Text, None),
-        help::SVG,
-    ),
-    Entry::Argument("ascii", None, Takes::Nothing, help::ASCII),
+    Entry::Value("svg", Some('o'), Text("PATH"), None, help::SVG),
+    Entry::Flag("ascii", help::ASCII),
 ];
 
 /// The files and the options of `check`.
 static CHECK_ENTRIES: [Entry; 10] = [
-    Entry::Argument(
-        "FILE",
-        None,
-        Takes::Words {
-            needed: false,
-            several: true,
-        },
-        help::FILES,
-    ),
+    Entry::Words("FILE", Words::Any, help::FILES),
     Entry::Heading(OUTPUT),
-    Entry::Argument("print", None, Takes::Nothing, help::PRINT),
-    Entry::Argument("calls", None, Takes::Nothing, help::CALLS),
+    Entry::Flag("print", help::PRINT),
+    Entry::Flag("calls", help::CALLS),
     Entry::Heading(RUN),
-    Entry::Argument(
+    Entry::Value(
         "schedule",
         Some('s'),
-        Takes::Value("S", Kind::Text, Some("")),
+        Text("S"),
+        Some(""),
         help::CHECK_SCHEDULE,
     ),
-    Entry::Argument(
-        "place",
-        None,
-        Takes::Value("LIST", Kind::Text, Some("")),
-        help::PLACE,
-    ),
+    Entry::Value("place", None, Text("LIST"), Some(""), help::PLACE),
     Entry::Heading(KCSAN),
-    Entry::Argument(
-        "slots",
-        None,
-        Takes::Value("N", Kind::Number(SLOTS), Some("64")),
-        help::SLOTS,
-    ),
-    Entry::Argument(
-        "word",
-        None,
-        Takes::Value("BITS", Kind::Name(NameList::Sizes), Some("64")),
-        help::WORD,
-    ),
+    Entry::Value("slots", None, Number(SLOTS), Some("64"), help::SLOTS),
+    Entry::Value("word", None, Name(NameList::Sizes), Some("64"), help::WORD),
 ];
 
 /// The options that `step`, `run`, `search` and `races` share: the places and what a wait takes, under the heading that
 /// the command is at, and KCSAN's settings.
 static SETTINGS: [Entry; 12] = [
-    Entry::Argument(
-        "place",
-        None,
-        Takes::Value("LIST", Kind::Text, Some("")),
-        help::PLACE,
-    ),
-    Entry::Argument(
-        "turns",
-        None,
-        Takes::Value("N", Kind::Number(TURNS), Some("1000000")),
-        help::TURNS,
-    ),
+    Entry::Value("place", None, Text("LIST"), Some(""), help::PLACE),
+    Entry::Value("turns", None, Number(TURNS), Some("1000000"), help::TURNS),
     Entry::Heading(KCSAN),
-    Entry::Argument(
-        "slots",
-        None,
-        Takes::Value("N", Kind::Number(SLOTS), Some("64")),
-        help::SLOTS,
-    ),
-    Entry::Argument(
-        "skip",
-        None,
-        Takes::Value("N", Kind::Number(SKIP), Some("0")),
-        help::SKIP,
-    ),
-    Entry::Argument("randomize", None, Takes::Nothing, help::RANDOMIZE),
-    Entry::Argument(
-        "seed",
-        None,
-        Takes::Value("N", Kind::Number((0, u64::MAX)), Some("1")),
-        help::SEED,
-    ),
-    Entry::Argument(
+    Entry::Value("slots", None, Number(SLOTS), Some("64"), help::SLOTS),
+    Entry::Value("skip", None, Number(SKIP), Some("0"), help::SKIP),
+    Entry::Flag("randomize", help::RANDOMIZE),
+    Entry::Value("seed", None, Number((0, u64::MAX)), Some("1"), help::SEED),
+    Entry::Value(
         "value-change-only",
         None,
-        Takes::Value("yes|no", Kind::Name(NameList::Choices), None),
+        Name(NameList::Choices),
+        None,
         help::VALUE_CHANGE_ONLY,
     ),
-    Entry::Argument(
+    Entry::Value(
         "plain-writes-atomic",
         None,
-        Takes::Value("yes|no", Kind::Name(NameList::Choices), None),
+        Name(NameList::Choices),
+        None,
         help::PLAIN_WRITES_ATOMIC,
     ),
-    Entry::Argument("strict", None, Takes::Nothing, help::STRICT),
-    Entry::Argument(
-        "kconfig",
-        None,
-        Takes::Value("FILE", Kind::Text, None),
-        help::KCONFIG,
-    ),
-    Entry::Argument(
-        "word",
-        None,
-        Takes::Value("BITS", Kind::Name(NameList::Sizes), Some("64")),
-        help::WORD,
-    ),
+    Entry::Flag("strict", help::STRICT),
+    Entry::Value("kconfig", None, Text("FILE"), None, help::KCONFIG),
+    Entry::Value("word", None, Name(NameList::Sizes), Some("64"), help::WORD),
 ];
 
 /// The options that `step`, `run` and `search` share behind these.
 static OUTPUT_OPTIONS: [Entry; 3] = [
     Entry::Heading(OUTPUT),
-    Entry::Argument("where", None, Takes::Nothing, help::WHERE),
-    Entry::Argument(
-        "trace",
-        Some('o'),
-        Takes::Value("PATH", Kind::Text, None),
-        help::TRACE,
-    ),
+    Entry::Flag("where", help::WHERE),
+    Entry::Value("trace", Some('o'), Text("PATH"), None, help::TRACE),
 ];
 
 /// The names that options take.
