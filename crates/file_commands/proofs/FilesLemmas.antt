@@ -17,12 +17,16 @@ use Rattle.file_commands.specs.declared.complaint.Complaint.{Complaint}
 use Rattle.diagnostics.specs.text_check.Check.{IsCheckOf}
 use Rattle.diagnostics.specs.declared.text_check.checked.Check.{Check}
 use Rattle.file_commands.specs.Desks.{DeskState}
-use Rattle.file_commands.specs.FileWork.{AreLeftOut, AreLookedInto, Asked, CanCount, FileFound, IsClear, IsClearText, IsFileFound, IsFoundIn, IsLookedAt, IsLookedInto, IsSearchFound, LooksInto, PassedOver}
-use Rattle.file_commands.specs.FileWork.{Refused, Searched, counted, counts_of, file_of, file_status_of, files_of, files_output_of, has_names, has_rows, heading_of, has_search_rows, is_more}
-use Rattle.file_commands.specs.FileWork.{is_text, last_line_of, no_counts, once_given, printed_of, rank, refused_by, search_verdict_of, status_of_all, unsearched_text}
-use Rattle.file_commands.specs.FileWork.{verdict_in, verdict_status_of, worse}
-use Rattle.file_commands.specs.declared.work.Work.{Work}
-use Rattle.file_commands.specs.declared.work.Work.TheVariants as works
+use Rattle.file_commands.specs.FileWork.{AreLeftOut, AreLookedInto, Asked, CanCount, FileFound, IsClear, IsFileFound, IsLookedAt, IsLookedInto, LooksInto, PassedOver}
+use Rattle.file_search.specs.Work.{IsClearText, IsFoundIn, IsSearchFound}
+use Rattle.file_commands.specs.FileWork.{Refused, Searched, counted, counts_of, file_of, file_status_of, files_of, files_output_of, has_names, is_more}
+use Rattle.file_search.specs.Work.{has_rows, heading_of, has_search_rows}
+use Rattle.file_commands.specs.FileWork.{no_counts, once_given, printed_of, refused_by, status_of_all}
+use Rattle.file_search.specs.Work.{is_text, last_line_of, rank, search_verdict_of, unsearched_text}
+use Rattle.file_commands.specs.FileWork.{verdict_in, verdict_status_of}
+use Rattle.file_search.specs.Work.{worse}
+use Rattle.file_search.specs.declared.work.Work.{Work}
+use Rattle.file_search.specs.declared.work.Work.TheVariants as works
 use Rattle.search_formats.specs.Refusals as unsearched
 use Rattle.search_formats.specs.declared.refusal.Refusal.{Refusal}
 use Rattle.search_formats.specs.declared.refusal.Refusal.TheVariants as refusals

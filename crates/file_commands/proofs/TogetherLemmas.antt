@@ -15,8 +15,10 @@ use Rattle.file_commands.proofs.CheckLemmas.{next_name}
 use Rattle.file_commands.proofs.FilesLemmas.{SearchedSoFar, looks_so_far, none_searched, one_searched, unread_said}
 use Rattle.file_commands.specs.Check.{IsToldOf}
 use Rattle.file_commands.specs.Desks.{DeskState}
-use Rattle.file_commands.specs.FileWork.{AreLeftTogether, AreRead, AreSeveral, Asked, FileRead, IsFoundIn, IsLostOf, IsRefusedFor, IsSaidOf, IsTextRead, PassedOver, Refused, Searched}
-use Rattle.file_commands.specs.FileWork.{counted, files_of, has_names, heading_of, no_counts, once_given, unsearched_text, worse}
+use Rattle.file_commands.specs.FileWork.{AreLeftTogether, AreRead, AreSeveral, Asked, FileRead, IsLostOf, IsRefusedFor, IsSaidOf, IsTextRead, PassedOver, Refused, Searched}
+use Rattle.file_search.specs.Work.{IsFoundIn}
+use Rattle.file_commands.specs.FileWork.{counted, files_of, has_names, no_counts, once_given}
+use Rattle.file_search.specs.Work.{heading_of, unsearched_text, worse}
 use Rattle.file_commands.specs.Settings.{AskSettings}
 use Rattle.file_commands.specs.StandardError.{heard}
 use Rattle.file_commands.specs.Together.{AllAreRead, AreEndsOf, FirstAreRead, IsEndAt, IsEndOfText, IsSaidOnce, IsUnread, text_of, texts_of}

@@ -1,9 +1,9 @@
 -- What is done with litmus files that are gone over one after the other.
-use Rattle.std.specs.Prelude.{◌≡◌, ◌≢◌, ◌<◌, ◌^◌, ◌⊎◌, ◌+◌, ◌++◌, ◌∷◌, ◌&&◌, ◌||◌, ◌==◌, ℕ, All, Bool, List, [], None, Option, Some, codes, false, fold}
-use Rattle.std.specs.Prelude.{if◌then◌else◌, length, map, max}
+use Rattle.std.specs.Prelude.{◌≡◌, ◌≢◌, ◌<◌, ◌^◌, ◌⊎◌, ◌+◌, ◌++◌, ◌∷◌, ◌&&◌, ◌||◌, ℕ, All, Bool, List, [], None, Option, Some, false, fold}
+use Rattle.std.specs.Prelude.{if◌then◌else◌, length, map}
 use Rattle.std.specs.Prelude.{nat_lt, take, true}
 use Rattle.std.specs.Borrow.{Bor}
-use Rattle.std.specs.List.{concat, flat_map}
+use Rattle.std.specs.List.{flat_map}
 use Rattle.cli.specs.declared.request.RunOptions.{RunOptions}
 use Rattle.diagnostics.specs.check_output.Diagnosis.{Diagnosis, Gave, IsFound, Lost, has_tables, name_of, status_of_one}
 use Rattle.diagnostics.specs.declared.check_output.file.Files.{Files}
@@ -20,28 +20,16 @@ use Rattle.file_commands.specs.declared.failure.Failure.TheVariants as failure
 use Rattle.file_commands.specs.declared.complaint.Complaint.{Complaint}
 use Rattle.file_commands.specs.declared.complaint.Complaint.TheVariants as complaints
 use Rattle.file_commands.specs.declared.files.FileSaid.{FileSaid}
-use Rattle.file_commands.specs.Additions.{HasAdditions}
-use Rattle.file_commands.specs.declared.work.SearchWork.{SearchWork}
-use Rattle.file_commands.specs.declared.work.Work.{Work}
-use Rattle.file_commands.specs.declared.work.Work.TheVariants as works
+use Rattle.file_search.specs.Work.{is_text, has_rows, IsFoundIn, IsClearText, worse, under_name, unsearched_text, heading_of, last_line_of}
+use Rattle.file_search.specs.declared.work.Work.{Work}
 use Rattle.litmus_parse.specs.Text.{file_bytes}
 use Rattle.prepared_program.specs.declared.program_sites.settings.Settings.{Settings}
-use Rattle.program_table.specs.text_pieces.Shown.{shown}
-use Rattle.race_output.specs.Results.{AreRacesOfText, IsFree}
-use Rattle.race_output.specs.Several as races_line
-use Rattle.race_output.specs.declared.file.Format.{Format}
-use Rattle.race_output.specs.declared.file.Format.TheVariants as races_formats
 use Rattle.output_pieces.specs.declared.file_counts.FileCounts.{FileCounts}
 use Rattle.race_output.specs.declared.words.FileVerdict.{FileVerdict}
 use Rattle.race_output.specs.declared.words.FileVerdict.TheVariants as verdicts
 use Rattle.report_text.specs.Sink.{CountsFailure}
 use Rattle.run_output.specs.declared.error.EngineError.{EngineError}
 use Rattle.run_output.specs.declared.error.EngineError.TheVariants as engine
-use Rattle.search_formats.specs.Files.{IsFileSearched}
-use Rattle.search_formats.specs.Refusals as unsearched
-use Rattle.search_formats.specs.Several as searched_line
-use Rattle.search_formats.specs.declared.wanted.Format as search_format
-use Rattle.search_formats.specs.declared.wanted.Format.TheVariants as search_formats
 use Rattle.search_formats.specs.declared.refusal.Refusal.{Refusal}
 use Rattle.search_formats.specs.declared.refusal.Refusal.TheVariants as refusals
 use Rattle.search_output.specs.Texts.{IsRefused}
@@ -61,35 +49,9 @@ AreSeveral asked = 1 < length asked.files
 abbrev pub files_of : Asked → Files
 files_of asked = record { several = nat_lt 1 (length asked.files); print = false }
 
-abbrev pub is_races_text : Format → Bool
-is_races_text races_formats.Text = true
-is_races_text races_formats.Json = false
-
-abbrev pub is_search_text : search_format.Format → Bool
-is_search_text search_formats.Text = true
-is_search_text search_formats.Json = false
-is_search_text search_formats.Csv = false
-is_search_text search_formats.Herd = false
-
--- text is written of each file
-abbrev pub is_text : Work → Bool
-is_text (works.Races work) = is_races_text work.format
-is_text (works.Search work) = is_search_text work.wanted.format
-
 -- each file goes under its name, and a line counts them all: there are several, and text is asked for
 abbrev pub has_names : Asked → Bool
 has_names asked = nat_lt 1 (length asked.files) && is_text asked.work
-
--- something is printed of each file for programs that read it, also of one that isn't looked into
-abbrev pub has_search_rows : search_format.Format → Bool
-has_search_rows search_formats.Text = false
-has_search_rows search_formats.Json = true
-has_search_rows search_formats.Csv = true
-has_search_rows search_formats.Herd = false
-
-abbrev pub has_rows : Work → Bool
-has_rows (works.Races work) = false
-has_rows (works.Search work) = has_search_rows work.wanted.format
 
 -- more is printed than the output of one file
 abbrev pub is_more : Asked → Bool
@@ -108,35 +70,11 @@ file_of (Searched name text output verdict) = name
 file_of (Refused name text error) = name
 file_of (PassedOver why) = name_of why
 
--- the verdict of a search: with a report, with none so far where it was stopped, and with none at all
-abbrev pub search_verdict_of : (raced stopped : Bool) → FileVerdict
-search_verdict_of true stopped = verdicts.Reported
-search_verdict_of false true = verdicts.Stopped
-search_verdict_of false false = verdicts.Free
-
--- What is written of the program of the text that a file gave, which was searched, with what is wanted beside it.
-pub record IsSearchFound (work : SearchWork) (settings : Settings) (name text output : List ℕ) (raced stopped : Bool) : Type 0 where
-  pub plain : List ℕ
-  pub searched : IsFileSearched name text settings work.wanted raced stopped plain
-  pub added : HasAdditions work.additions name text settings plain output
-
--- what is written of the text that a file gave, with this verdict, is so of it
-abbrev pub IsFoundIn : Work → Settings → (name text output : List ℕ) → FileVerdict → Type 0
-IsFoundIn (works.Races work) settings name text output verdict =
-    AreRacesOfText text settings work.format name output verdict × (verdict ≡ verdicts.Free → IsFree text settings)
-IsFoundIn (works.Search work) settings name text output verdict =
-    (raced stopped : Bool) × IsSearchFound work settings name text output raced stopped × (verdict ≡ search_verdict_of raced stopped)
-
 -- what was found is so, under these settings; want of memory is no finding
 abbrev pub IsFileFound : Work → Settings → FileFound → Type 0
 IsFileFound work settings (Searched name text output verdict) = IsFoundIn work settings name text output verdict
 IsFileFound work settings (Refused name text error) = IsRefused text settings error × (engine_status_of error ≢ 71)
 IsFileFound work settings (PassedOver why) = IsFound settings why × (has_tables why ≡ false)
-
--- no execution of the program of the text has a race; of a search, none that it explores has a report
-abbrev pub IsClearText : Work → Settings → (name text output : List ℕ) → Type 0
-IsClearText (works.Races work) settings name text output = IsFree text settings
-IsClearText (works.Search work) settings name text output = IsSearchFound work settings name text output false false
 
 -- the file gave a text, of which this is so
 abbrev pub IsClear : Work → Settings → FileFound → Type 0
@@ -157,29 +95,9 @@ file_status_of (Searched name text output verdict) = verdict_status_of verdict
 file_status_of (Refused name text error) = engine_status_of error
 file_status_of (PassedOver why) = status_of_one why
 
--- A search that was stopped is the least of what may come of several, and a file that is refused comes before a report.
-abbrev pub rank : ℕ → ℕ
-rank status = if status == 75 then 1 else status
-
--- of two statuses that which counts: the greater, and of searches that of the higher rank
-abbrev pub worse : Work → (status other : ℕ) → ℕ
-worse (works.Races work) status other = max status other
-worse (works.Search work) status other = if nat_lt (rank status) (rank other) then other else status
-
 -- of these statuses that which counts: that of all files
 abbrev pub status_of_all : Work → List FileFound → ℕ
 status_of_all work founds = fold (worse work) 0 (map file_status_of founds)
-
--- what is written of a file under its name
-unfoldable pub under_races_name : (name output : List ℕ) → List ℕ
-under_races_name name output = concat (shown name ∷ codes ":\n\n" ∷ output ∷ codes "\n" ∷ [])
-
-unfoldable pub under_search_name : (name output : List ℕ) → List ℕ
-under_search_name name output = concat (codes "== " ∷ shown name ∷ codes "\n" ∷ output ∷ [])
-
-abbrev pub under_name : Work → (name output : List ℕ) → List ℕ
-under_name (works.Races work) name output = under_races_name name output
-under_name (works.Search work) name output = under_search_name name output
 
 -- why a text has no output
 abbrev pub refusal_in : EngineError → Refusal
@@ -203,11 +121,6 @@ refused_by (checks.Refused error why) = Some (65, refusals.Text error)
 abbrev pub refusal_of : Diagnosis → Refusal
 refusal_of (Gave name text check) = refusal_by check
 refusal_of (Lost name) = refusals.CannotRead
-
--- what is printed of a file that isn't looked into
-abbrev pub unsearched_text : Work → (name : List ℕ) → (status : ℕ) → Refusal → List ℕ
-unsearched_text (works.Races work) name status why = []
-unsearched_text (works.Search work) name status why = unsearched.refused_text name work.wanted.format status why
 
 -- what is printed of a file
 abbrev pub printed_of : (names : Bool) → Work → FileFound → List ℕ
@@ -250,16 +163,6 @@ counted counts None = record counts { refused = counts.refused + 1 }
 -- how many files have which verdict, or none
 abbrev pub counts_of : List FileFound → FileCounts
 counts_of founds = fold counted no_counts (map verdict_in founds)
-
--- what is written in front of all files
-abbrev pub heading_of : Work → List ℕ
-heading_of (works.Races work) = []
-heading_of (works.Search work) = searched_line.heading work.wanted.format
-
--- the line that counts files
-abbrev pub last_line_of : Work → FileCounts → List ℕ
-last_line_of (works.Races work) counts = races_line.last_line counts
-last_line_of (works.Search work) counts = searched_line.last_line counts
 
 -- what is printed of all files: of several, as text, with a line behind that counts them
 abbrev pub files_output_of : (names : Bool) → Work → List FileFound → List ℕ

@@ -1,5 +1,4 @@
 pub mod Files
-pub mod Additions
 pub mod StandardError
 pub mod Desks
 pub mod Failures

@@ -10,11 +10,12 @@ use Rattle.cli.specs.declared.request.Switches.{Switches}
 use Rattle.cli.specs.declared.request.Switches.TheVariants as switches
 use Rattle.file_commands.specs.Desks.{DeskState}
 use Rattle.file_commands.specs.FileWork as work
-use Rattle.file_commands.specs.declared.additions.Additions.{Additions}
+use Rattle.file_search.specs.declared.additions.Additions.{Additions}
 use Rattle.file_commands.specs.FileWork.{Asked, FilesEnd}
-use Rattle.file_commands.specs.declared.work.Work.TheVariants as works
-use Rattle.file_commands.specs.declared.work.RacesWork.{RacesWork}
-use Rattle.file_commands.specs.declared.work.SearchWork.{SearchWork}
+use Rattle.file_search.specs.Work.{is_search_text}
+use Rattle.file_search.specs.declared.work.Work.TheVariants as works
+use Rattle.file_search.specs.declared.work.RacesWork.{RacesWork}
+use Rattle.file_search.specs.declared.work.SearchWork.{SearchWork}
 use Rattle.search_formats.specs.declared.wanted.FileWanted.{FileWanted}
 use Rattle.race_output.specs.declared.file.Format as races_format
 use Rattle.race_output.specs.declared.file.Format.TheVariants as races_formats
@@ -56,8 +57,8 @@ search_wanted request = record {
 -- What is printed beside what was found, where standard output is a terminal or not: in a format for programs nothing.
 abbrev pub search_additions : SearchesRequest → (at_terminal : Bool) → Additions
 search_additions request at_terminal = record {
-  places = work.is_search_text (search_format_of request.format) && request.options.located;
-  settings = work.is_search_text (search_format_of request.format) && (request.settings || at_terminal);
+  places = is_search_text (search_format_of request.format) && request.options.located;
+  settings = is_search_text (search_format_of request.format) && (request.settings || at_terminal);
 }
 
 abbrev pub search_work : SearchesRequest → (at_terminal : Bool) → SearchWork

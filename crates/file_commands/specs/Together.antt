@@ -7,7 +7,8 @@ use Rattle.diagnostics.specs.check_output.Output.{IsMadeOf}
 use Rattle.diagnostics.specs.declared.text_check.checked.Check.{Check}
 use Rattle.diagnostics.specs.text_check.Check.{IsCheckOf}
 use Rattle.file_commands.specs.Desks.{DeskState}
-use Rattle.file_commands.specs.FileWork.{AreRead, Asked, FileRead, IsFoundIn, IsLookedAt, IsTextRead, files_of, refused_by}
+use Rattle.file_commands.specs.FileWork.{AreRead, Asked, FileRead, IsLookedAt, IsTextRead, files_of, refused_by}
+use Rattle.file_search.specs.Work.{IsFoundIn}
 use Rattle.file_commands.specs.Statuses.{engine_status_of}
 use Rattle.file_commands.specs.declared.files.FileSaid.{FileSaid}
 use Rattle.file_commands.specs.declared.together.NumberedEnd.{NumberedEnd}

@@ -8,13 +8,14 @@ ghost use Rattle.file_commands.specs.Check.{IsLeftOver};
 ghost use Rattle.file_commands.specs.Desks.{DeskState};
 ghost use Rattle.file_commands.specs.FileWork as spec;
 ghost use Rattle.file_commands.specs.FileWork.{AreLeftOut, AreSearched, CanCount, FilesEnd, IsLookedAt, IsLostOf, IsRefusedFor, IsSaidOf};
-ghost use Rattle.file_commands.specs.FileWork.{files_of, has_names, last_line_of, once_given};
+ghost use Rattle.file_commands.specs.FileWork.{files_of, has_names, once_given};
+ghost use Rattle.file_search.specs.Work.{under_name};
+ghost use Rattle.file_search.specs.Work.{last_line_of};
 ghost use Rattle.file_commands.specs.FilesAsked.{asked_by};
 ghost use Rattle.file_commands.specs.Races as requests;
 ghost use Rattle.file_commands.specs.Races.{RacesEnds, SearchesEnd};
 ghost use Rattle.file_commands.specs.Settings.{AskSettings};
 
-use crate::additions::Additions;
 use crate::advice::advise_check;
 use crate::check::{Checked, print_checked, tell, tell_file, unread_complaint};
 use crate::complaint::Complaint;
@@ -22,12 +23,13 @@ use crate::desk::{Desk, ReadFault};
 use crate::failure::{Failure, NO_REPORT, OUT_OF_MEMORY, REPORTED, STOPPED};
 use crate::settings::settings_for;
 use crate::together::carry_together;
-use crate::work::{
+use cli::{RacesFormat, RacesRequest, RunOptions, SearchFormat, SearchesRequest, Switches};
+use diagnostics::check_output::{Comes, Files, file_comes};
+use file_search::additions::Additions;
+use file_search::work::{
     RacesWork, SearchWork, TextFound, Work, begun, find, is_text, last_line, under_name,
     unsearched, worse,
 };
-use cli::{RacesFormat, RacesRequest, RunOptions, SearchFormat, SearchesRequest, Switches};
-use diagnostics::check_output::{Comes, Files, file_comes};
 use litmus_parse::FILE_BYTES;
 use litmus_step::Settings;
 use output_pieces::FileCounts;
@@ -133,7 +135,7 @@ fn printed(
     output: Vec<u8>,
 ) -> Result<Vec<u8>, AllocError>
     ensures { IfOk result (λ text. text.items
-        ≡ (if names then spec.under_name work name.now output.items else output.items)) }
+        ≡ (if names then under_name work name.now output.items else output.items)) }
 {
     if !names {
         return Ok(output);

@@ -2,7 +2,6 @@
 //! why the program does not end well, and what a program is run under.
 #![tactic(auto)]
 
-pub mod additions;
 pub mod advice;
 pub mod check;
 pub mod complaint;
@@ -11,7 +10,6 @@ pub mod failure;
 pub mod files;
 pub mod settings;
 mod together;
-mod work;
 
 pub use run_stats::Progress;
 pub use search_output::SearchProgress;

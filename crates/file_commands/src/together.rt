@@ -20,8 +20,8 @@ use crate::files::{
     tell_lost, with_last_line,
 };
 use crate::settings::settings_for;
-use crate::work::{TextFound, begun, find, unsearched, worse};
 use diagnostics::check_output::{Comes, file_comes};
+use file_search::work::{TextFound, begun, find, unsearched, worse};
 use litmus_parse::FILE_BYTES;
 use litmus_step::Settings;
 use run_output::EngineError;

@@ -1,8 +1,8 @@
 //! What is printed of a litmus text beside what was found of it.
 
 ghost use Rattle.std.specs.Prelude.{◌≡◌, ◌++◌, IfOk};
-ghost use Rattle.file_commands.specs.Additions as spec;
-ghost use Rattle.file_commands.specs.Additions.{HasAdditions, HasPlaces};
+ghost use Rattle.file_search.specs.Additions as spec;
+ghost use Rattle.file_search.specs.Additions.{HasAdditions, HasPlaces};
 
 use litmus_step::Settings;
 use race_output::settings_text::settings_line;

@@ -1,8 +1,8 @@
 //! What is done with a litmus file of several: its races are looked for, or its program is searched.
 
 ghost use Rattle.std.specs.Prelude.{◌≡◌, ◌<◌, IfErr, IfOk, OnErr, true};
-ghost use Rattle.file_commands.specs.FileWork as spec;
-ghost use Rattle.file_commands.specs.FileWork.{IsFoundIn};
+ghost use Rattle.file_search.specs.Work as spec;
+ghost use Rattle.file_search.specs.Work.{IsFoundIn};
 ghost use Rattle.search_output.specs.Texts.{IsRefused};
 
 use crate::additions::{Additions, with_additions};
@@ -18,21 +18,21 @@ use std::alloc::{AllocError, Global};
 
 /// How the races of a file are looked for, and written.
 #[derive(Clone, Copy)]
-pub(crate) struct RacesWork {
-    pub(crate) wanted: RacesWanted,
-    pub(crate) format: race_output::Format,
+pub struct RacesWork {
+    pub wanted: RacesWanted,
+    pub format: race_output::Format,
 }
 
 /// How the program of a file is searched, and what is printed of that.
 #[derive(Clone, Copy)]
-pub(crate) struct SearchWork {
-    pub(crate) wanted: FileWanted,
-    pub(crate) additions: Additions,
+pub struct SearchWork {
+    pub wanted: FileWanted,
+    pub additions: Additions,
 }
 
 /// What is done with a file.
 #[derive(Clone, Copy)]
-pub(crate) enum Work {
+pub enum Work {
     /// Its races are looked for.
     Races(RacesWork),
     /// Its program is searched.
@@ -41,13 +41,13 @@ pub(crate) enum Work {
 
 /// What was found of the text of a file: what is written of it, and the verdict.
 #[derive(Drop)]
-pub(crate) struct TextFound {
-    pub(crate) output: Vec<u8>,
-    pub(crate) verdict: FileVerdict,
+pub struct TextFound {
+    pub output: Vec<u8>,
+    pub verdict: FileVerdict,
 }
 
 /// Text is written of each file.
-pub(crate) fn is_text(work: Work) -> bool
+pub fn is_text(work: Work) -> bool
     ensures { result ≡ spec.is_text work }
 {
     match work {
@@ -121,7 +121,7 @@ fn search<P: SearchProgress>(
 }
 
 /// Looks into the text that a file of this name gave.
-pub(crate) fn find<P: SearchProgress>(
+pub fn find<P: SearchProgress>(
     alloc: Global,
     work: Work,
     name: &str,
@@ -158,8 +158,8 @@ pub(crate) fn find<P: SearchProgress>(
 }
 
 /// What is written of a file under its name.
-#[tactic(auto, unfolding(crate::specs::FileWork::under_races_name, crate::specs::FileWork::under_search_name))]
-pub(crate) fn under_name(
+#[tactic(auto, unfolding(crate::specs::Work::under_races_name, crate::specs::Work::under_search_name))]
+pub fn under_name(
     alloc: Global,
     work: Work,
     name: &str,
@@ -188,7 +188,7 @@ fn has_rows(work: Work) -> bool
 }
 
 /// What is printed of a file that isn't looked into, which comes with this status.
-pub(crate) fn unsearched(
+pub fn unsearched(
     alloc: Global,
     work: Work,
     name: &str,
@@ -207,7 +207,7 @@ pub(crate) fn unsearched(
 }
 
 /// What is written in front of all files.
-pub(crate) fn begun(alloc: Global, work: Work) -> Result<Vec<u8>, AllocError>
+pub fn begun(alloc: Global, work: Work) -> Result<Vec<u8>, AllocError>
     ensures { IfOk result (λ text. text.items ≡ spec.heading_of work) }
 {
     match work {
@@ -217,11 +217,7 @@ pub(crate) fn begun(alloc: Global, work: Work) -> Result<Vec<u8>, AllocError>
 }
 
 /// The line that counts files.
-pub(crate) fn last_line(
-    alloc: Global,
-    work: Work,
-    counts: FileCounts,
-) -> Result<Vec<u8>, AllocError>
+pub fn last_line(alloc: Global, work: Work, counts: FileCounts) -> Result<Vec<u8>, AllocError>
     ensures { IfOk result (λ text. text.items ≡ spec.last_line_of work counts) }
 {
     match work {
@@ -239,7 +235,7 @@ fn rank(status: u8) -> u8
 }
 
 /// Of two statuses that which counts.
-pub(crate) fn worse(work: Work, status: u8, other: u8) -> u8
+pub fn worse(work: Work, status: u8, other: u8) -> u8
     ensures { result ≡ spec.worse work status other }
 {
     match work {

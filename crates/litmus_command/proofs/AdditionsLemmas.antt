@@ -1,8 +1,8 @@
 -- What is wanted beside an output changes nothing else of what is left.
 use Rattle.std.proofs.Common.{◌≡◌, ℕ, Bool, List, Option, ap, subst, sym}
 use Rattle.std.specs.Option.{option_map}
-use Rattle.file_commands.specs.Additions.{HasAdditions}
-use Rattle.file_commands.specs.declared.additions.Additions.{Additions}
+use Rattle.file_search.specs.Additions.{HasAdditions}
+use Rattle.file_search.specs.declared.additions.Additions.{Additions}
 use Rattle.prepared_program.specs.declared.program_sites.settings.Settings.{Settings}
 use Rattle.run_output.specs.declared.written.Written.{Written}
 

@@ -11,7 +11,7 @@ use Rattle.litmus_command.proofs.EndLemmas.{Ends, IsTold, ends_cut, ends_told, f
 use Rattle.file_commands.specs.Check.{IsLeftOver, IsPrinted}
 use Rattle.file_commands.specs.Desks.{DeskState, once_told}
 use Rattle.file_commands.specs.Files.{FileEvent, OnlyRead}
-use Rattle.file_commands.specs.FileWork as work
+use Rattle.file_search.specs.Work as work
 use Rattle.file_commands.specs.FileWork.{AllSearched, AreLookedInto, Asked, Early, FileFound, FilesEnd, IsFileFound, IsLookedInto, LeftOut, LeftTogether, Misplaced, PassedOver, Refused, Searched}
 use Rattle.file_commands.specs.FileWork.{files_of, files_output_of, has_names, is_more, status_of_all, verdict_status_of}
 use Rattle.file_commands.specs.Races.{AreSeveral, RacesEnds, asked_of_races}

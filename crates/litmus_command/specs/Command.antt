@@ -40,10 +40,10 @@ use Rattle.search_run.specs.declared.wanted.Wanted.{Wanted}
 use Rattle.trace_replay.specs.Answer as answers
 use Rattle.trace_replay.specs.declared.accepted.TraceError.{TraceError}
 use Rattle.diagnostics.specs.text_check.Calls.{calls_text}
-use Rattle.file_commands.specs.Additions.{HasAdditions}
+use Rattle.file_search.specs.Additions.{HasAdditions}
 use Rattle.file_commands.specs.Check.{CheckAsksFor, CheckEnds, IsOutOfMemory, IsSeveral, IsWarned}
 use Rattle.file_commands.specs.Desks.{DeskState}
-use Rattle.file_commands.specs.declared.additions.Additions.{Additions}
+use Rattle.file_search.specs.declared.additions.Additions.{Additions}
 use Rattle.litmus_command.specs.Engine.{IsRefused, TextLeaves}
 use Rattle.file_commands.specs.Files.{FileEvent, Gave, Has, OnlyRead, noted}
 use Rattle.litmus_command.specs.Replay.{IsLineOf}

@@ -1,9 +1,9 @@
 //! What is left of runs, with what is wanted beside the output.
 
 ghost use Rattle.std.specs.Prelude.{◌≡◌, IfOk};
-ghost use Rattle.file_commands.specs.Additions.{HasAdditions};
+ghost use Rattle.file_search.specs.Additions.{HasAdditions};
 
-use file_commands::additions::{Additions, with_additions};
+use file_search::additions::{Additions, with_additions};
 use litmus_step::Settings;
 use run_output::Written;
 use std::alloc::{AllocError, Global};

@@ -34,7 +34,7 @@ use cli::{
     version_line,
 };
 use diagnostics::text_check::calls;
-use file_commands::additions::Additions;
+use file_search::additions::Additions;
 use file_commands::advice::{Given, advise_given};
 use file_commands::check::carry_check;
 use file_commands::complaint::Complaint;

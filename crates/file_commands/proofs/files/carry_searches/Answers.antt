@@ -2,8 +2,8 @@
 use Rattle.std.proofs.Common.{Bor, List, ℕ, subst}
 use Rattle.file_commands.specs.FileWork.{FilesEnd}
 use Rattle.file_commands.specs.Races.{search_work}
-use Rattle.file_commands.specs.declared.work.SearchWork.{SearchWork}
-use Rattle.file_commands.specs.declared.work.Work.TheVariants.{Search}
+use Rattle.file_search.specs.declared.work.SearchWork.{SearchWork}
+use Rattle.file_search.specs.declared.work.Work.TheVariants.{Search}
 use Rattle.file_commands.proofs.files.carry_searches.Goals as goal
 
 pub returns : goal.returns

@@ -4,7 +4,8 @@ use Rattle.file_commands.proofs.CheckLemmas.{on_err}
 use Rattle.file_commands.proofs.FilesLemmas.{all_clear, can_count_more, looks_so_far, output_so_far, total, total_counted}
 use Rattle.file_commands.proofs.TogetherLemmas.{all_are_first, all_told, file_told, left_so_far, left_untold, none_told}
 use Rattle.file_commands.specs.Desks.{DeskState}
-use Rattle.file_commands.specs.FileWork.{AreLeftTogether, counted, worse}
+use Rattle.file_commands.specs.FileWork.{AreLeftTogether, counted}
+use Rattle.file_search.specs.Work.{worse}
 use Rattle.file_commands.specs.FilesAsked.{asked_by}
 use Rattle.file_commands.specs.Together.{texts_of}
 use Rattle.file_commands.proofs.together.tell_files.Goals as goal
