@@ -26,7 +26,7 @@ _kcsan_litmus() {
   local cur=${COMP_WORDS[COMP_CWORD]} before=${COMP_WORDS[COMP_CWORD - 1]} command=${COMP_WORDS[1]}
   local commands="step run search races replay show check help" formats="text json" options=
   local settings="--place --slots --skip --randomize --seed --strict --value-change-only --plain-writes-atomic
-    --kconfig --word --turns"
+    --unknown-origin --kconfig --word --turns"
   COMPREPLY=()
   if ((COMP_CWORD == 1)); then
     [[ $cur != -* ]] || commands="--help -h --version -V"
@@ -53,7 +53,7 @@ _kcsan_litmus() {
     --format) _kcsan_litmus_words "$formats" ;;
     --word) _kcsan_litmus_words "64 32" ;;
     --switches) _kcsan_litmus_words all ;;
-    --value-change-only | --plain-writes-atomic) _kcsan_litmus_words "yes no" ;;
+    --value-change-only | --plain-writes-atomic | --unknown-origin) _kcsan_litmus_words "yes no" ;;
     --kconfig) _kcsan_litmus_files '*.config' '*config-*' ;;
     --trace | --svg | -o) _kcsan_litmus_files '*' ;;
     @) _kcsan_litmus_list ;;

@@ -47,6 +47,7 @@ complete -c kcsan_litmus -n "$executing" -l seed -x -d 'Seed of the skips'
 complete -c kcsan_litmus -n "$executing" -l strict -d 'No for both of the settings yes|no'
 complete -c kcsan_litmus -n "$executing" -l value-change-only -xa 'yes no' -d 'Report changed values alone'
 complete -c kcsan_litmus -n "$executing" -l plain-writes-atomic -xa 'yes no' -d 'Plain writes count as marked'
+complete -c kcsan_litmus -n "$executing" -l unknown-origin -xa 'yes no' -d 'Print reports of unknown origin'
 complete -c kcsan_litmus -n "$executing" -l kconfig -xka '(__fish_complete_suffix .config)' -d 'Settings of a kernel'
 complete -c kcsan_litmus -n "$executing" -l turns -x -d 'Failed tries of a wait until a task is stuck'
 

@@ -82,7 +82,8 @@ short_rule letter rule = record rule { short = Some letter }
 -- a command, also with the settings of a run: the places, what a wait takes, and those of KCSAN
 unfoldable pub with_settings : App → Names → App
 with_settings app names =
-    with_rule (with_rule (with_rule (with_rule (with_rule (with_rule (with_rule (with_rule (with_rule (with_rule (with_rule app
+    with_rule (with_rule (with_rule (with_rule (with_rule (with_rule (with_rule (with_rule (with_rule (with_rule (with_rule
+    (with_rule app
     (default_rule (codes "place") []))
     (number_rule (codes "turns") 1 1000000000 (codes "1000000")))
     (number_rule (codes "slots") 3 1024 (codes "64")))
@@ -92,6 +93,7 @@ with_settings app names =
     (free_name_rule (codes "value-change-only") names.choices))
     (free_name_rule (codes "plain-writes-atomic") names.choices))
     (flag_rule (codes "strict")))
+    (free_name_rule (codes "unknown-origin") names.choices))
     (text_rule (codes "kconfig")))
     (name_rule (codes "word") names.sizes (codes "64"))
 
@@ -290,6 +292,7 @@ pub record AskSettings (values : List Row) (options : RunOptions) : Type 0 where
   pub layout : IsLayout values (codes "word") options.layout
   pub turns : IsNumber values (codes "turns") options.turns
   pub located : IsFlag values (codes "where") options.located
+  pub unknown_origin : options.unknown_origin ≡ choice_of (first_of (codes "unknown-origin") values) false
 
 -- the values ask for this of what `step`, `run` and `search` all have
 pub record AskOptions (values : List Row) (options : RunOptions) : Type 0 where

@@ -411,6 +411,16 @@ pub const PLAIN_WRITES_ATOMIC: Help = Help {
         given",
 };
 
+/// What `--unknown-origin` does.
+pub const UNKNOWN_ORIGIN: Help = Help {
+    brief: "Prints reports of unknown origin [yes]",
+    full: "\
+        Whether reports of unknown origin are printed and count for the\n\
+        status, as CONFIG_KCSAN_REPORT_RACE_UNKNOWN_ORIGIN: yes. Those of\n\
+        assertions are in any case. Counters and traces have them all, and\n\
+        races says the same",
+};
+
 /// What `--strict` does.
 pub const STRICT: Help = Help {
     brief: "The same as 'no' for these two",

@@ -156,7 +156,7 @@ static CHECK_ENTRIES: [Entry; 10] = [
 
 /// The options that `step`, `run`, `search` and `races` share: the places and what a wait takes, under the heading that
 /// the command is at, and KCSAN's settings.
-static SETTINGS: [Entry; 12] = [
+static SETTINGS: [Entry; 13] = [
     Entry::Value("place", None, Text("LIST"), Some(""), help::PLACE),
     Entry::Value("turns", None, Number(TURNS), Some("1000000"), help::TURNS),
     Entry::Heading(KCSAN),
@@ -179,6 +179,13 @@ static SETTINGS: [Entry; 12] = [
         help::PLAIN_WRITES_ATOMIC,
     ),
     Entry::Flag("strict", help::STRICT),
+    Entry::Value(
+        "unknown-origin",
+        None,
+        Name(NameList::Choices),
+        None,
+        help::UNKNOWN_ORIGIN,
+    ),
     Entry::Value("kconfig", None, Text("FILE"), None, help::KCONFIG),
     Entry::Value("word", None, Name(NameList::Sizes), Some("64"), help::WORD),
 ];

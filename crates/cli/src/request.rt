@@ -216,6 +216,8 @@ pub struct RunOptions<'a> {
     pub turns: u64,
     /// Whether it is said of each access of a report where it is. `races` says that of each of its sites.
     pub located: bool,
+    /// Whether reports of unknown origin are printed, as by CONFIG_KCSAN_REPORT_RACE_UNKNOWN_ORIGIN.
+    pub unknown_origin: bool,
 }
 
 /// What the words ask for; the first of them is the program's name. An error is a mistake in them, or asks for help or
@@ -634,6 +636,7 @@ fn settings<'a>(matches: &ArgMatches<'a>, trace: Option<&'a str>) -> Option<RunO
         layout: layout(matches)?,
         turns: number(matches, "turns", TURNS)?,
         located: matches.get_flag("where"),
+        unknown_origin: choice(matches.get_str("unknown-origin")),
     })
 }
 

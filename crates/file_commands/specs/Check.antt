@@ -51,6 +51,7 @@ options_of request = record {
   layout = request.layout;
   turns = 1000000;
   located = false;
+  unknown_origin = true;
 }
 
 -- these are the settings that are asked for, and the schedule that is asked for reads

@@ -52,6 +52,7 @@ search_wanted request = record {
   limit = request.limit;
   seconds = request.seconds;
   format = search_format_of request.format;
+  unknown_origin = request.options.unknown_origin;
 }
 
 -- What is printed beside what was found, where standard output is a terminal or not: in a format for programs nothing.

@@ -62,6 +62,7 @@ fn step_options<'a>(request: &CheckRequest<'a>) -> RunOptions<'a>
         layout: request.layout,
         turns: 1_000_000,
         located: false,
+        unknown_origin: true,
     }
 }
 

@@ -436,6 +436,7 @@ fn search_wanted(request: &SearchesRequest<'_>) -> FileWanted
         limit: request.limit,
         seconds: request.seconds,
         format: search_format(request.format),
+        unknown_origin: request.options.unknown_origin,
     }
 }
 

@@ -150,6 +150,8 @@ fn add_options(
         add_option(rt, words, given, "--plain-writes-atomic", atomic)?;
     }
     add_option(rt, words, given, "--skip", config.skip)?;
+    let unknown = yes_or_no(config.unknown_origin);
+    add_option(rt, words, given, "--unknown-origin", unknown)?;
     if config.randomize == Some(true) && !has_option(given, "--randomize") {
         add(rt, words, "--randomize")?;
     }
@@ -157,17 +159,11 @@ fn add_options(
 }
 
 /// Says on standard error which settings of a configuration mean nothing here.
-fn tell_meaningless(rt: &HostRuntime, text: &str, config: &KernelConfig<'_>) {
+fn tell_meaningless(rt: &HostRuntime, text: &str) {
     for name in MEANINGLESS {
         if is_set(text, name) {
             let _ = eprintln!(rt; "kcsan_litmus: {name} has no meaning here");
         }
-    }
-    if config.unknown_origin == Some(false) {
-        let _ = eprintln!(rt;
-            "kcsan_litmus: reports of unknown origin are printed, \
-             though CONFIG_KCSAN_REPORT_RACE_UNKNOWN_ORIGIN is not set"
-        );
     }
 }
 
@@ -181,7 +177,7 @@ fn add_config(
     let text = config_text(rt, file)?;
     let config = KernelConfig::read(text.as_str());
     add_options(rt, words, given, &config)?;
-    tell_meaningless(rt, text.as_str(), &config);
+    tell_meaningless(rt, text.as_str());
     Ok(())
 }
 

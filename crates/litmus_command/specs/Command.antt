@@ -93,14 +93,14 @@ abbrev pub search_additions_of : SearchRequest → (at_terminal : Bool) → Addi
 search_additions_of request at_terminal = record { places = request.options.located; settings = request.settings || at_terminal }
 
 -- This is left of one run of the program that a text spells, under the settings and the schedule that are asked for:
--- whether there was a report, the output, with what is wanted beside it, and the trace, if it is asked for.
+-- whether there was a report that is printed, the output, with what is wanted beside it, and the trace, if it is asked for.
 pub record IsLeft (request : StepRequest) (text : List ℕ) (raced : Bool) (output : List ℕ) (trace : Option (List ℕ)) :
     Type 0 where
   pub settings : Settings
   pub entries : List Entry
   pub asks : AsksFor request settings entries
   pub plain : List ℕ
-  pub leaves : TextLeaves text settings entries raced plain trace
+  pub leaves : TextLeaves request.options.unknown_origin text settings entries raced plain trace
   pub added : HasAdditions (run_additions_of request.options) request.file.now text settings plain output
   pub traced : is_some trace ≡ is_some request.options.trace
 
@@ -112,6 +112,7 @@ times_of request = record {
   jobs = request.jobs;
   stop_at_first = request.stop_at_first;
   keep_going = request.keep_going;
+  unknown_origin = request.options.unknown_origin;
 }
 
 -- This is left of runs on threads of the program that a text spells, as often and under the settings as it is asked
@@ -131,11 +132,17 @@ wanted_of request most = record {
   limit = request.limit;
   seconds = request.seconds;
   traced = is_some request.options.trace;
+  unknown_origin = request.options.unknown_origin;
 }
 
 -- and of one of all schedules
 abbrev pub all_wanted_of : SearchRequest → AllWanted
-all_wanted_of request = record { limit = request.limit; seconds = request.seconds; traced = is_some request.options.trace }
+all_wanted_of request = record {
+  limit = request.limit;
+  seconds = request.seconds;
+  traced = is_some request.options.trace;
+  unknown_origin = request.options.unknown_origin;
+}
 
 -- a search of a text, over schedules with at most so many preemptions or over all, leaves this of what is asked for
 abbrev pub IsSearchedFor : SearchRequest → Switches → (text : List ℕ) → Settings → (raced stopped : Bool) → (output : List ℕ) →

@@ -2,6 +2,7 @@
 use Rattle.std.specs.Prelude.{◌≡◌, ◌<◌, ◌==◌, ◌⊎◌, ℕ, List, [], Option, Bool, IfSome, IsTrue, false, length, not}
 use Rattle.access_types.specs.Sites.{AccessMap}
 use Rattle.litmus_parse.specs.Read.{IsReadAs}
+use Rattle.printed_reports.specs.Printed.{printed_reports}
 use Rattle.prepared_program.specs.declared.program_sites.error.RunError.{RunError}
 use Rattle.prepared_program.specs.declared.program_sites.error.RunError.TheVariants.{BadPlace, BadSchedule, BadSlots, NoThread, OutOfMemory, Stuck}
 use Rattle.run_output.specs.Output.{IsOutput}
@@ -32,9 +33,10 @@ pub record AreStepped (run : lists.Run) (entries : List Entry) (records : List R
   pub asked : AreAsked (tasks_known run) (tasks_of run) [] order records
 
 -- What is left of one run of the program, under these settings and this schedule, in which all tasks ended: its output,
--- which begins with the reports of its steps, and its trace, if there is one, which `replay` accepts. There was a race
--- if there is a report. And of its steps the headline holds: each report names a true race, or bytes that changed.
-pub record Leaves (program : Program) (settings : Settings) (entries : List Entry) (raced : Bool) (output : List ℕ)
+-- which begins with the reports of its steps that are printed, where those of unknown origin are wanted or not, and its
+-- trace, if there is one, which has all reports, and which `replay` accepts. There was a race if there is a report that
+-- is printed. And of its steps the headline holds: each report names a true race, or bytes that changed.
+pub record Leaves (unknown : Bool) (program : Program) (settings : Settings) (entries : List Entry) (raced : Bool) (output : List ℕ)
     (trace : Option (List ℕ)) : Type 0 where
   pub fit : AreFit program.variables settings.places.items
   pub known : names_stranger (length program.tasks) entries ≡ false
@@ -42,18 +44,18 @@ pub record Leaves (program : Program) (settings : Settings) (entries : List Entr
   pub records : List Record
   pub stepped : AreStepped (run_of program settings sites) entries records
   pub over : AllHaveEnded (run_of program settings sites) records
-  pub output_is : IsOutput stepped.list (reports_of stepped.list) output
+  pub output_is : IsOutput stepped.list (printed_reports unknown sites (reports_of stepped.list)) output
   pub trace_is : IfSome trace (IsTraceOf settings stepped.list (reports_of stepped.list))
   pub accepted : IfSome trace IsToBeAccepted
-  pub raced_is : raced ≡ not (length (reports_of stepped.list) == 0)
+  pub raced_is : raced ≡ not (length (printed_reports unknown sites (reports_of stepped.list)) == 0)
   pub headline : Headline stepped.list
 
 -- so it is of the program that the text is read as
-pub record TextLeaves (text : List ℕ) (settings : Settings) (entries : List Entry) (raced : Bool) (output : List ℕ)
+pub record TextLeaves (unknown : Bool) (text : List ℕ) (settings : Settings) (entries : List Entry) (raced : Bool) (output : List ℕ)
     (trace : Option (List ℕ)) : Type 0 where
   pub program : Program
   pub read : IsReadAs text program
-  pub leaves : Leaves program settings entries raced output trace
+  pub leaves : Leaves unknown program settings entries raced output trace
 
 -- The tasks of the program were asked for steps under these settings in the order of the schedule, and then a wait of
 -- the task had as many failed tries as are allowed.

@@ -34,7 +34,6 @@ use cli::{
     version_line,
 };
 use diagnostics::text_check::calls;
-use file_search::additions::Additions;
 use file_commands::advice::{Given, advise_given};
 use file_commands::check::carry_check;
 use file_commands::complaint::Complaint;
@@ -42,6 +41,7 @@ use file_commands::desk::Desk;
 use file_commands::failure::{Failure, NO_REPORT, REPORTED, STOPPED, USAGE};
 use file_commands::files::{carry_races, carry_searches};
 use file_commands::settings::settings_for;
+use file_search::additions::Additions;
 use litmus_parse::FILE_BYTES;
 use litmus_step::Settings;
 use picture_text::Style;
@@ -331,7 +331,8 @@ fn step<D: Desk>(alloc: Global, request: &StepRequest<'_>, desk: &mut D) -> Resu
     let (settings, schedule) = asked_for(alloc, request)?;
     let text = desk.read_file(alloc, request.file, FILE_BYTES)?;
     let traced = request.options.trace.is_some();
-    let written = run_text(alloc, &text, &settings, &schedule, traced)?;
+    let unknown = request.options.unknown_origin;
+    let written = run_text(alloc, &text, &settings, &schedule, traced, unknown)?;
     let wanted = run_additions(&request.options);
     let shown = added(alloc, wanted, request.file, &text, &settings, written)?;
     emit(request.options.trace, &shown, false, desk)
@@ -347,6 +348,7 @@ fn times_for(request: &RunRequest<'_>) -> Times
         jobs: request.jobs,
         stop_at_first: request.stop_at_first,
         keep_going: request.keep_going,
+        unknown_origin: request.options.unknown_origin,
     }
 }
 

@@ -22,6 +22,7 @@ fn wanted_for(request: &SearchRequest<'_>, most: u64) -> Wanted
         limit: request.limit,
         seconds: request.seconds,
         traced: request.options.trace.is_some(),
+        unknown_origin: request.options.unknown_origin,
     }
 }
 
@@ -33,6 +34,7 @@ fn all_wanted_for(request: &SearchRequest<'_>) -> AllWanted
         limit: request.limit,
         seconds: request.seconds,
         traced: request.options.trace.is_some(),
+        unknown_origin: request.options.unknown_origin,
     }
 }
 

@@ -24,7 +24,7 @@ use Rattle.runner.proofs.ColumnLemmas.{item_there}
 use Rattle.runner.specs.Result.{AreResultsOf, IsOf, IsResultOf, IsRunOnce}
 use Rattle.runner.specs.declared.run.RunIndex.{RunIndex}
 use Rattle.slot_table.specs.declared.records.Record.{Record}
-use Rattle.run_stats.specs.Output.{AreQuietBeforeLast, IsTraceOfLast, reports_in}
+use Rattle.run_stats.specs.Output.{AreQuietBeforeLast, IsTraceOfLast, printed_in}
 use Rattle.run_stats.specs.Runs.{AreMadeApart, AreNumberedFrom, ComeFrom, Comes, IsLast, IsNumbered, OneRun, StuckRun}
 use Rattle.run_output.specs.declared.error.EngineError.{EngineError}
 use Rattle.run_output.specs.declared.error.EngineError.TheVariants.{Run, SinkFailed, Text}
@@ -63,14 +63,15 @@ same_before (a ∷ xs) (b ∷ ys) x y is =
     let rest : xs ++ x ∷ [] ≡ ys ++ y ∷ [] = cc in
     ap₂ (λ z zs. z ∷ zs) first (same_before xs ys x y rest)
 
-pub none_before_none : {program : Program} {settings : Settings} → AreQuietBeforeLast {program = program} {settings = settings} []
-none_before_none before last is = absurd (empty_is_not before last is)
+pub none_before_none : {program : Program} {settings : Settings} (unknown : Bool) (sites : AccessMap)
+    → AreQuietBeforeLast {program = program} {settings = settings} unknown sites []
+none_before_none unknown sites before last is = absurd (empty_is_not before last is)
 
--- after runs without a report comes one more
-pub quiet_before : {program : Program} {settings : Settings} (runs : List (OneRun program settings)) (one : OneRun program settings)
-    → reports_in runs ≡ [] → AreQuietBeforeLast (runs ++ one ∷ [])
-quiet_before {program} {settings} runs one none before last is =
-    ap (λ (all : List (OneRun program settings)). reports_in all) (sym (same_before runs before one last is)) ∙ none
+-- after runs without a report that is printed comes one more
+pub quiet_before : {program : Program} {settings : Settings} (unknown : Bool) (sites : AccessMap) (runs : List (OneRun program settings))
+    (one : OneRun program settings) → printed_in unknown sites runs ≡ [] → AreQuietBeforeLast unknown sites (runs ++ one ∷ [])
+quiet_before {program} {settings} unknown sites runs one none before last is =
+    ap (λ (all : List (OneRun program settings)). printed_in unknown sites all) (sym (same_before runs before one last is)) ∙ none
 
 -- a run of a number above those of all runs before it was made by a call of its own
 pub more_apart : {program : Program} {settings : Settings} (runs : List (OneRun program settings)) (one : OneRun program settings)

@@ -1,5 +1,5 @@
 -- The reports of a run on threads name accesses of its program.
-use Rattle.std.proofs.Common.{◌≡◌, ℕ, zero, suc, All, IsSome, List, Option, None, Some, refl, subst, sym}
+use Rattle.std.proofs.Common.{◌≡◌, ℕ, zero, suc, All, Bool, IsSome, List, Option, None, Some, refl, subst, sym}
 use Rattle.std.proofs.lemmas.List.Elements.{All-append, All-filter, All-nil, All-weaker}
 use Rattle.std.specs.FinMap as map
 use Rattle.access_types.specs.Access.{Access}
@@ -14,6 +14,7 @@ use Rattle.litmus_syntax.specs.Views.{program_of}
 use Rattle.litmus_syntax.specs.declared.program.Program.{Program}
 use Rattle.prepared_program.specs.program_layout.Places.{places_of}
 use Rattle.prepared_program.specs.program_sites.Sites.{AreSitesOf}
+use Rattle.printed_reports.specs.Printed.{is_printed, printed_reports}
 use Rattle.report_text.specs.ReportOf.{NamesAccesses}
 use Rattle.soundness.specs.Reported.{IsTrueReport}
 use Rattle.log_correctness.specs.Setters.{is_by, reports_by}
@@ -60,3 +61,8 @@ reports_are_named program settings map_of result are once =
     by_task (NamesAccesses map_of) (reports_of once.list)
     (all_names once.list map_of are (reports_of once.list) once.is_of.headline.reports)
     (tasks_of (run_of program settings once.sites)) result.reports.items once.is_of.reports
+
+-- so are those that are printed
+pub printed_are_named : (unknown : Bool) (map_of : AccessMap) (reports : List Report) → All (NamesAccesses map_of) reports
+    → All (NamesAccesses map_of) (printed_reports unknown map_of reports)
+printed_are_named unknown map_of reports named = All-filter (is_printed unknown map_of) (NamesAccesses map_of) reports named

@@ -8,6 +8,7 @@ use Rattle.litmus_syntax.specs.Views.{program_of}
 use Rattle.litmus_syntax.specs.declared.program.Program.{Program}
 use Rattle.prepared_program.specs.program_layout.Places.{AreFit, places_of}
 use Rattle.prepared_program.specs.program_sites.Sites.{AreSitesOf}
+use Rattle.printed_reports.specs.Printed.{printed_reports}
 use Rattle.report_text.specs.Groups.{AreGroupsOf, Group, group_text}
 use Rattle.report_text.specs.ReportOf.{report_text}
 use Rattle.run_output.specs.Lines.{condition_line, counters_line, stuck_line}
@@ -21,6 +22,10 @@ use Rattle.task_log.specs.declared.counters.Counters.{Counters}
 -- the reports of all runs, one run after the other
 abbrev pub reports_in : {program : Program} {settings : Settings} → List (OneRun program settings) → List Report
 reports_in runs = flat_map (λ one. one.result.reports.items) runs
+
+-- and those of them that are printed, where those of unknown origin are wanted or not
+abbrev pub printed_in : {program : Program} {settings : Settings} → (unknown : Bool) → AccessMap → List (OneRun program settings) → List Report
+printed_in unknown sites runs = flat_map (λ one. printed_reports unknown sites one.result.reports.items) runs
 
 -- how often each thing came of the checks of all: each sum rests at the largest number of 64 bits
 pub record AreSums (all : List Counters) (sums : Counters) : Type 0 where
@@ -54,15 +59,15 @@ abbrev pub stuck_text : (counted : Bool) → (stuck many : ℕ) → List ℕ
 stuck_text true stuck many = stuck_line stuck many
 stuck_text false stuck many = []
 
--- The output of runs that ended, and so many more in which a task got stuck: each distinct report, in the order in
--- which they were first seen, with how often it was seen, the sums of the counters, in how many of those that ended the
+-- The output of runs that ended, and so many more in which a task got stuck: each distinct report that is printed, where
+-- those of unknown origin are wanted or not, in the order in which they were first seen, with how often it was seen, the sums of the counters, in how many of those that ended the
 -- condition held, and, where stuck runs are counted, how many of all got stuck.
-pub record IsOutput {program : Program} {settings : Settings} (counted : Bool) (runs : List (OneRun program settings)) (stuck : ℕ)
+pub record IsOutput {program : Program} {settings : Settings} (unknown counted : Bool) (runs : List (OneRun program settings)) (stuck : ℕ)
     (output : List ℕ) : Type 0 where
   pub sites : AccessMap
   pub sites_are : AreSitesOf (program_of program) (places_of settings.places.items) sites
   pub groups : List Group
-  pub groups_are : AreGroupsOf (map (report_text sites) (reports_in runs)) groups
+  pub groups_are : AreGroupsOf (map (report_text sites) (printed_in unknown sites runs)) groups
   pub sums : Counters
   pub sums_are : AreSums (map (λ one. one.found.counters) runs) sums
   pub spelled : output ≡ found_text groups sums (unbalanced_in runs) (held_in runs) (length runs)
@@ -76,37 +81,40 @@ pub record IsTraceOfLast {program : Program} {settings : Settings} (runs : List 
   pub trace_is : IsTraceOf settings last.once.list last.result.reports.items bytes
   pub accepted : IsToBeAccepted bytes
 
--- no run but the last has a report
-abbrev pub AreQuietBeforeLast : {program : Program} {settings : Settings} → List (OneRun program settings) → Type 0
-AreQuietBeforeLast {program = program} {settings = settings} runs =
-    (before : List (OneRun program settings)) (last : OneRun program settings) → runs ≡ before ++ last ∷ [] → reports_in before ≡ []
+-- no run but the last has a report that is printed
+abbrev pub AreQuietBeforeLast : {program : Program} {settings : Settings} → (unknown : Bool) → AccessMap → List (OneRun program settings) → Type 0
+AreQuietBeforeLast {program = program} {settings = settings} unknown sites runs =
+    (before : List (OneRun program settings)) (last : OneRun program settings) → runs ≡ before ++ last ∷ []
+    → printed_in unknown sites before ≡ []
 
 -- Of the runs that are asked for these were made and ended, and in these others a task got stuck. That is all of them,
--- or, where it is asked for, those up to the first with a report; and stuck ones are among them only where they are
+-- or, where it is asked for, those up to the first with a report that is printed; and stuck ones are among them only where they are
 -- counted. Each that ended was made by a call of its own, under a number below how many all these are. The numbers
 -- rise, so just as many are left out as runs got stuck: none stands in for another that was dropped under an earlier
 -- number.
-pub record AreAsMany {program : Program} {settings : Settings} (times : Times) (runs : List (OneRun program settings))
+pub record AreAsMany {program : Program} {settings : Settings} (times : Times) (sites : AccessMap) (runs : List (OneRun program settings))
     (stuck : List (StuckRun program settings)) : Type 0 where
   pub most : length runs + length stuck ≤ times.runs
-  pub fewer : length runs + length stuck < times.runs → (times.stop_at_first ≡ true) × ¬ (reports_in runs ≡ [])
-  pub first : times.stop_at_first ≡ true → AreQuietBeforeLast runs
+  pub fewer : length runs + length stuck < times.runs → (times.stop_at_first ≡ true) × ¬ (printed_in times.unknown_origin sites runs ≡ [])
+  pub first : times.stop_at_first ≡ true → AreQuietBeforeLast times.unknown_origin sites runs
   pub counted : times.keep_going ≡ false → stuck ≡ []
   pub apart : AreMadeApart runs
   pub numbers : All (λ one. one.result.number < length runs + length stuck) runs
 
 -- This is left of runs of the program on threads, under these settings, as often as is asked for: whether there was a
--- report, the output, and the trace of the last run that ended, where one is wanted and there is such a run.
+-- report that is printed, the output, and the trace of the last run that ended, where one is wanted and there is such a run.
 pub record Leave (program : Program) (settings : Settings) (times : Times) (traced : Bool) (raced : Bool) (output : List ℕ)
     (trace : Option (List ℕ)) : Type 0 where
   pub fit : AreFit program.variables settings.places.items
+  pub sites : AccessMap
+  pub sites_are : AreSitesOf (program_of program) (places_of settings.places.items) sites
   pub runs : List (OneRun program settings)
   pub stuck : List (StuckRun program settings)
-  pub many_are : AreAsMany times runs stuck
-  pub output_is : IsOutput times.keep_going runs (length stuck) output
+  pub many_are : AreAsMany times sites runs stuck
+  pub output_is : IsOutput times.unknown_origin times.keep_going runs (length stuck) output
   pub trace_is : IfSome trace (IsTraceOfLast runs)
   pub traced_is : is_some trace ≡ (traced && not (length runs == 0))
-  pub raced_is : raced ≡ not (length (reports_in runs) == 0)
+  pub raced_is : raced ≡ not (length (printed_in times.unknown_origin sites runs) == 0)
 
 -- so it is of the program that the text is read as
 pub record TextLeaves (text : List ℕ) (settings : Settings) (times : Times) (traced : Bool) (raced : Bool) (output : List ℕ)

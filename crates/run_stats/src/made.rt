@@ -1,7 +1,7 @@
 //! Runs of a program that are made in batches, one after the other or several side by side, until there are as many as
 //! are asked for.
 
-ghost use Rattle.std.specs.Prelude.{◌≡◌, ◌≤◌, ◌<◌, ◌+◌, ◌-◌, ◌*◌, ◌^◌, ◌++◌, ◌∷◌, [], ℕ, All, List, IfErr, IfOk, OnOk, length, slice_get, true};
+ghost use Rattle.std.specs.Prelude.{◌≡◌, ◌≤◌, ◌<◌, ◌+◌, ◌-◌, ◌*◌, ◌^◌, ◌++◌, ◌∷◌, [], ℕ, All, Bool, List, IfErr, IfOk, OnOk, length, slice_get, true};
 ghost use Rattle.access_types.specs.Sites.{AccessMap};
 ghost use Rattle.prepared_program.specs.program_sites.Prepared.{IsPrepared, sites_in};
 ghost use Rattle.prepared_program.specs.declared.program_sites.settings.Settings as terms;
@@ -237,7 +237,8 @@ fn is_counted(counted: bool, error: RunError) -> bool
 impl Made {
     /// No run.
     fn new(alloc: Global) -> Made
-        ensures { (program : tree.Program) (settings : terms.Settings) (sites : AccessMap) → AreMade program settings sites [] [] result }
+        ensures { (unknown : Bool) (program : tree.Program) (settings : terms.Settings) (sites : AccessMap)
+            → AreMade unknown program settings sites [] [] result }
     {
         Made {
             tally: Tally::new(alloc),
@@ -269,18 +270,19 @@ impl Made {
         settings: &Settings,
         prepared: &Prepared,
         ended: RunResult,
+        unknown: bool,
     ) -> Result<(), EngineError>
         requires limits { KeepsLimits (program_of program.now) }
         requires ready { IsPrepared program.now settings.now prepared.now }
         requires once { IsRunOnce program.now settings.now ended }
         requires few { self.old.ended < 2 ^ 64 - 1 }
         ensures made { (runs : List (OneRun program.now settings.now)) (stuck : List (StuckRun program.now settings.now))
-            → AreMade program.now settings.now (sites_in prepared.now) runs stuck self.old
+            → AreMade unknown program.now settings.now (sites_in prepared.now) runs stuck self.old
             → OnOk result ((one : OneRun program.now settings.now) × (one.result ≡ ended)
-            × AreMade program.now settings.now (sites_in prepared.now) (runs ++ one ∷ []) stuck self.new) }
+            × AreMade unknown program.now settings.now (sites_in prepared.now) (runs ++ one ∷ []) stuck self.new) }
         ensures stops { IfErr result (Stops true program.now settings.now) }
     {
-        self.tally.add(alloc, program, prepared, &ended)?;
+        self.tally.add(alloc, program, prepared, &ended, unknown)?;
         self.last = Some(ended);
         self.ended += 1;
         Ok(())
@@ -293,7 +295,7 @@ impl Made {
         program: &Program,
         settings: &Settings,
         prepared: &Prepared,
-        counted: bool,
+        times: Times,
         outcome: Result<RunResult, RunError>,
     ) -> Result<(), EngineError>
         requires limits { KeepsLimits (program_of program.now) }
@@ -301,14 +303,18 @@ impl Made {
         requires comes { Comes program.now settings.now outcome }
         requires few { (self.old.ended < 2 ^ 64 - 1) × (self.old.stuck < 2 ^ 64 - 1) }
         ensures made { (runs : List (OneRun program.now settings.now)) (stuck : List (StuckRun program.now settings.now))
-            → AreMade program.now settings.now (sites_in prepared.now) runs stuck self.old
-            → OnOk result (IsOneMore program.now settings.now (sites_in prepared.now) counted outcome runs stuck self.new) }
-        ensures stops { IfErr result (Stops counted program.now settings.now) }
+            → AreMade times.unknown_origin program.now settings.now (sites_in prepared.now) runs stuck self.old
+            → OnOk result (IsOneMore times.unknown_origin program.now settings.now (sites_in prepared.now) times.keep_going outcome runs
+            stuck self.new) }
+        ensures stops { IfErr result (Stops times.keep_going program.now settings.now) }
     {
         match outcome {
-            Ok(ended) => self.add_ended(alloc, program, settings, prepared, ended),
+            Ok(ended) => {
+                let unknown = times.unknown_origin;
+                self.add_ended(alloc, program, settings, prepared, ended, unknown)
+            }
             Err(error) => {
-                if !is_counted(counted, error) {
+                if !is_counted(times.keep_going, error) {
                     return Err(EngineError::Run(error));
                 }
                 self.stuck += 1;
@@ -333,10 +339,11 @@ impl Made {
     /// What is written of the runs.
     pub(crate) fn output(&self, alloc: Global, counted: bool) -> Result<Vec<u8>, AllocError>
         requires { self.now.ended + self.now.stuck < 2 ^ 64 }
-        ensures { (program : tree.Program) (settings : terms.Settings) (sites : AccessMap) (runs : List (OneRun program settings))
-            (stuck : List (StuckRun program settings)) → AreMade program settings sites runs stuck self.now
+        ensures { (unknown : Bool) (program : tree.Program) (settings : terms.Settings) (sites : AccessMap)
+            (runs : List (OneRun program settings)) (stuck : List (StuckRun program settings))
+            → AreMade unknown program settings sites runs stuck self.now
             → AreSitesOf (program_of program) (places_of settings.places.items) sites
-            → IfOk result (λ output. IsOutput counted runs (length stuck) output.items) }
+            → IfOk result (λ output. IsOutput unknown counted runs (length stuck) output.items) }
     {
         law_groups_are_of_their_texts();
         let mut sink = MemorySink::new(alloc);
@@ -376,7 +383,7 @@ pub(crate) fn made_of<R: Threads + Wait + Sync, P: Progress, H: Hooks>(
             plan.program,
             plan.settings,
             plan.prepared,
-            times.keep_going,
+            times,
             outcome,
         )?;
         progress.ran(run + 1, times.runs);

@@ -1,6 +1,6 @@
 //! What is found of runs, taken together.
 
-ghost use Rattle.std.specs.Prelude.{◌≡◌, ◌++◌, ◌∷◌, ◌↔◌, [], All, List, IfOk, IsTrue, OnOk, fold, map};
+ghost use Rattle.std.specs.Prelude.{◌≡◌, ◌++◌, ◌∷◌, ◌↔◌, [], All, Bool, List, IfOk, IsTrue, OnOk, fold, map};
 ghost use Rattle.access_types.specs.Sites.{AccessMap};
 ghost use Rattle.prepared_program.specs.program_sites.Prepared.{IsPrepared, sites_in};
 ghost use Rattle.prepared_program.specs.declared.program_sites.settings.Settings as terms;
@@ -18,6 +18,7 @@ ghost use Rattle.runner.specs.Result.{IsRunOnce};
 use access_types::{Report, Sites};
 use litmus_parse::Program;
 use litmus_step::Prepared;
+use printed_reports::printed_reports;
 use report_text::{Groups, Sink, WriteError};
 use run_output::{found_of, write_condition, write_counters};
 use runner::RunResult;
@@ -49,7 +50,8 @@ fn count_reports(groups: &mut Groups, reports: &[Report], sites: &Sites) -> Resu
 impl Tally {
     /// Of no run.
     pub(crate) fn new(alloc: Global) -> Tally
-        ensures { (program : tree.Program) (settings : terms.Settings) (sites : AccessMap) → Tallies program settings sites [] result }
+        ensures { (unknown : Bool) (program : tree.Program) (settings : terms.Settings) (sites : AccessMap)
+            → Tallies unknown program settings sites [] result }
     {
         Tally {
             groups: Groups::new(alloc),
@@ -67,27 +69,32 @@ impl Tally {
         self.raced
     }
 
-    /// Adds what is found of one run more. Both counts stop at the largest number that there is: so they need no bound
-    /// on how many runs there are, and never begin again at 0.
+    /// Adds what is found of one run more, of its reports those that are printed, where those of unknown origin are
+    /// wanted or not. Both counts stop at the largest number that there is: so they need no bound on how many runs
+    /// there are, and never begin again at 0.
     pub(crate) fn add(
         &mut self,
         alloc: Global,
         program: &Program,
         prepared: &Prepared,
         ended: &RunResult,
+        unknown: bool,
     ) -> Result<(), AllocError>
         requires limits { KeepsLimits (program_of program.now) }
         requires names { All (NamesAccesses (sites_in prepared.now)) ended.now.reports.items }
         ensures { (settings : terms.Settings) (runs : List (OneRun program.now settings))
-            → Tallies program.now settings (sites_in prepared.now) runs self.old → IsPrepared program.now settings prepared.now
+            → Tallies unknown program.now settings (sites_in prepared.now) runs self.old → IsPrepared program.now settings prepared.now
             → IsRunOnce program.now settings ended.now
             → OnOk result ((one : OneRun program.now settings) × (one.result ≡ ended.now)
-            × Tallies program.now settings (sites_in prepared.now) (runs ++ one ∷ []) self.new) }
+            × Tallies unknown program.now settings (sites_in prepared.now) (runs ++ one ∷ []) self.new) }
     {
         law_the_headline_holds();
         let found = found_of(alloc, program, prepared, ended)?;
-        count_reports(&mut self.groups, ended.reports(), prepared.sites())?;
-        self.raced = self.raced || !ended.reports().is_empty();
+        let sites = prepared.sites();
+        let printed = printed_reports(alloc, ended.reports(), sites, unknown)?;
+        let shown = printed.as_slice();
+        count_reports(&mut self.groups, shown, sites)?;
+        self.raced = self.raced || !shown.is_empty();
         self.counters.add(&found.counters);
         self.unbalanced = self.unbalanced.saturating_add(found.unbalanced);
         self.held = self.held.saturating_add(u64::from(found.held));

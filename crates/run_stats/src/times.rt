@@ -9,10 +9,12 @@ pub struct Times {
     pub delay: u64,
     /// How many runs are made side by side.
     pub jobs: u64,
-    /// Whether the first run with a report is the last.
+    /// Whether the first run with a report that is printed is the last.
     pub stop_at_first: bool,
     /// Whether runs in which a task gets stuck are counted; otherwise the first of them stops all.
     pub keep_going: bool,
+    /// Whether reports of unknown origin are printed, and count as reports.
+    pub unknown_origin: bool,
 }
 
 /// Who is told how far the runs have come.

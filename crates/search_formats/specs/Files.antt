@@ -31,6 +31,7 @@ use Rattle.search_output.specs.declared.text.SearchText.{SearchText}
 use Rattle.search_run.specs.Searches.{IsOfSearch}
 use Rattle.search_run.specs.Texts.{TextIsSearched}
 use Rattle.search_run.specs.declared.wanted.Wanted.{Wanted}
+use Rattle.search_text.specs.Printed.{printed}
 use Rattle.search_text.specs.SearchFindings.{texts_of_all}
 use Rattle.search_text.specs.Stops.{is_stopped}
 use Rattle.search_text.specs.declared.found.SearchFindings.{SearchFindings}
@@ -38,10 +39,21 @@ use Rattle.search_text.specs.declared.stopped.Stopped.{Stopped}
 
 -- what is wanted of a search with at most so many preemptions, and of a search of all states: no trace
 abbrev pub wanted_within : FileWanted → (switches : ℕ) → Wanted
-wanted_within wanted switches = record { switches = switches; limit = wanted.limit; seconds = wanted.seconds; traced = false }
+wanted_within wanted switches = record {
+  switches = switches;
+  limit = wanted.limit;
+  seconds = wanted.seconds;
+  traced = false;
+  unknown_origin = wanted.unknown_origin;
+}
 
 abbrev pub wanted_of_all : FileWanted → AllWanted
-wanted_of_all wanted = record { limit = wanted.limit; seconds = wanted.seconds; traced = false }
+wanted_of_all wanted = record {
+  limit = wanted.limit;
+  seconds = wanted.seconds;
+  traced = false;
+  unknown_origin = wanted.unknown_origin;
+}
 
 -- what is kept of what a search leaves
 abbrev pub text_kept : SearchText → FileSearched
@@ -70,9 +82,9 @@ written Json name program text spots sites settings reported ended extent =
     json_text name program.name (places_of settings.places.items) program.variables text spots sites settings reported ended extent
 
 -- The output is what is written of what is found of the bounded executions of the program under these settings, within
--- the bounds that are wanted. There was a race if one of them has a report. Where the search wasn't stopped, each
--- report of each list with as few preemptions, searched or not, is told; and no such list has a report or an end that
--- no bounded execution has.
+-- the bounds that are wanted, with the reports alone that are printed. There was a race if there is one. Where the
+-- search wasn't stopped, each report of each list with as few preemptions, searched or not, is among those of which some
+-- are printed; and no such list has a report or an end that no bounded execution has.
 pub record IsFoundOfBounded (program : Program) (settings : Settings) (wanted : Wanted) (format : Format) (name text : List ℕ)
     (raced stopped : Bool) (output : List ℕ) : Type 0 where
   pub fit : AreFit program.variables settings.places.items
@@ -87,12 +99,12 @@ pub record IsFoundOfBounded (program : Program) (settings : Settings) (wanted : 
   pub all_told : stopped ≡ false
       → AllAreTold (run_of program settings sites) (Some wanted.switches) (texts_of_all (all_searched searched.lists))
   pub spots : List (List ℕ)
-  pub output_is : output
-      ≡ written format name program text spots sites settings findings.found findings.found (bounded_extent nodes how)
-  pub raced_is : raced ≡ not (length findings.found.reports == 0)
+  pub output_is : output ≡ written format name program text spots sites settings (printed wanted.unknown_origin findings.found)
+      (printed wanted.unknown_origin findings.found) (bounded_extent nodes how)
+  pub raced_is : raced ≡ not (length (printed wanted.unknown_origin findings.found).reports == 0)
 
 -- The output is what is written of what is found of all states of the program under these settings, or of those that
--- were visited before the search was stopped. There was a race if there is a report.
+-- were visited before the search was stopped, with the reports alone that are printed. There was a race if there is one.
 pub record IsFoundOfAll (program : Program) (settings : Settings) (wanted : AllWanted) (format : Format) (name text : List ℕ)
     (raced stopped : Bool) (output : List ℕ) : Type 0 where
   pub fit : AreFit program.variables settings.places.items
@@ -102,9 +114,10 @@ pub record IsFoundOfAll (program : Program) (settings : Settings) (wanted : AllW
   pub of : IsOfAll settings wanted (run_of program settings sites) searched
   pub stopped_is : stopped ≡ is_stopped searched.stopped
   pub spots : List (List ℕ)
-  pub output_is : output ≡ written format name program text spots sites settings searched.findings.reported.found
-      searched.findings.ended.found (states_extent searched.visited searched.stopped)
-  pub raced_is : raced ≡ not (length searched.findings.reported.found.reports == 0)
+  pub output_is : output ≡ written format name program text spots sites settings
+      (printed wanted.unknown_origin searched.findings.reported.found) searched.findings.ended.found
+      (states_extent searched.visited searched.stopped)
+  pub raced_is : raced ≡ not (length (printed wanted.unknown_origin searched.findings.reported.found).reports == 0)
 
 -- so it is with so many preemptions, or any
 abbrev pub IsWrittenOf : Preemptions → Program → Settings → FileWanted → (name text : List ℕ) → (raced stopped : Bool)

@@ -25,6 +25,8 @@ pub struct FileWanted {
     /// After how many seconds it stops, if these are bounded.
     pub seconds: Option<u64>,
     pub format: Format,
+    /// Whether reports of unknown origin are printed.
+    pub unknown_origin: bool,
 }
 
 /// What comes of a file that is searched.

@@ -8,3 +8,4 @@ pub mod CountedLemmas
 pub mod Shown
 pub mod VecTexts
 pub mod ReadBack
+pub mod PrintedLemmas

@@ -1,14 +1,16 @@
 -- The sightings that a map's entries show.
 use Rattle.std.proofs.Common.{◌≡◌, ◌++◌, ◌∷◌, ◌∙◌, ℕ, List, [], Bool, None, Option, Some, true, false, ap, append_assoc, flat_map}
-use Rattle.std.proofs.Common.{is_some, map, position, refl, slice_get, suc, sym, zero, Vec, Global}
-use Rattle.std.specs.List.{list_any}
+use Rattle.std.proofs.Common.{is_some, map, not, position, refl, slice_get, suc, sym, zero, Vec, Global}
+use Rattle.std.specs.List.{filter, list_any}
 use Rattle.std.specs.Option.{option_map}
 use Rattle.std.specs.Map.{keys_of, lookup, values_of}
 use Rattle.indexmap.specs.IndexMap.{insert_entry, set_value_at}
 use Rattle.indexmap.proofs.MapLemmas.{Found-position, insert_entry-first}
+use Rattle.printed_reports.specs.Texts.{is_hidden_text}
 use Rattle.report_text.specs.Groups.{is_text}
 use Rattle.search_text.specs.SearchFindings.{option_again}
 use Rattle.search_text.specs.Counted.{with_count_at}
+use Rattle.search_text.specs.Printed as printed
 use Rattle.search_text.specs.Seen.{again, sighted}
 use Rattle.search_text.specs.Times.{Sighting, Times}
 use Rattle.prepared_program.specs.declared.step_schedule.schedule.Entry as schedules
@@ -106,4 +108,16 @@ found_is (entry ∷ entries) text = by (is_text text entry.0.items) refl (found_
         → is_some (lookup (λ (key : Vec ℕ Global). is_text text key.items) (entry ∷ entries))
         ≡ list_any (λ (sighting : Sighting). is_text text sighting.0) (shown (entry ∷ entries))
     by true p rest = rw p refl
+    by false p rest = rw p rest
+
+-- the sightings whose texts aren't hidden
+pub shown_kept : (entries : List Entry)
+    → shown (filter (λ (entry : Entry). not (is_hidden_text entry.0.items)) entries) ≡ printed.shown false (shown entries)
+shown_kept [] = refl
+shown_kept (entry ∷ entries) = by (not (is_hidden_text entry.0.items)) refl (shown_kept entries)
+  where
+    by : (b : Bool) → not (is_hidden_text entry.0.items) ≡ b
+        → shown (filter (λ (entry : Entry). not (is_hidden_text entry.0.items)) entries) ≡ printed.shown false (shown entries)
+        → shown (filter (λ (entry : Entry). not (is_hidden_text entry.0.items)) (entry ∷ entries)) ≡ printed.shown false (shown (entry ∷ entries))
+    by true p rest = rw p (ap (λ ss. (entry.0.items, entry.1) ∷ ss) rest)
     by false p rest = rw p rest

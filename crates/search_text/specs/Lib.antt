@@ -9,3 +9,4 @@ pub mod FirstLists
 pub mod Counted
 pub mod Stops
 pub mod Write
+pub mod Printed

@@ -8,6 +8,7 @@ pub mod firsts;
 pub mod found;
 pub mod laws;
 pub mod locations;
+pub mod printed;
 pub mod schedules;
 pub mod seen;
 pub mod states;

@@ -214,6 +214,7 @@ pub(crate) const THOUSAND: Times = Times {
     jobs: 1,
     stop_at_first: false,
     keep_going: false,
+    unknown_origin: true,
 };
 
 /// A stall that is over at once, and counts how often it came.

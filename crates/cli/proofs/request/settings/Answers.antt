@@ -1,10 +1,10 @@
 -- each value is that of its option
-use Rattle.std.proofs.Common.{◌≡◌, ◌∙◌, arith, codes, false, is_some, refl, sym, true}
+use Rattle.std.proofs.Common.{◌≡◌, ◌∙◌, ap, arith, codes, false, is_some, refl, sym, true}
 use Rattle.clap.specs.Words.{found_of, rows_of}
 use Rattle.cli.proofs.SearchLemmas.{not_unread, unread}
-use Rattle.cli.proofs.ValueLemmas.{flag_read, none_holds, not_missing, some_read, text_there}
+use Rattle.cli.proofs.ValueLemmas.{flag_read, none_holds, not_missing, some_read, text_read, text_there}
 use Rattle.cli.specs.Bounds.{KeepsBounds}
-use Rattle.cli.specs.Words.{AskSettings, choices_of}
+use Rattle.cli.specs.Words.{AskSettings, choice_of, choices_of}
 use Rattle.cli.proofs.request.settings.Goals as goal
 
 pub returns : goal.returns
@@ -32,6 +32,8 @@ returns c =
         turns = c.in_ok-number-4.ensures.asked;
         located = flag_read found (codes "where") c.get_flag-2.result c.get_flag-2.ensures.none c.get_flag-2.ensures.value
             c.get_flag-2.ensures.other;
+        unknown_origin = c.choice.ensures
+            ∙ ap (λ word. choice_of word false) (sym (text_read found (codes "unknown-origin") c.get_str-3.result c.get_str-3.ensures));
       };
       trace = refl;
       complete = λ options bounds asks. refl;

@@ -102,9 +102,9 @@ returns g c =
       entries = entries;
       asks = c.in_ok-settings.ensures.asks;
       plain = plain.output.items;
-      leaves = kept (λ raced trace. TextLeaves text settings entries raced plain.output.items trace) plain written
+      leaves = kept (λ raced trace. TextLeaves request.options.unknown_origin text settings entries raced plain.output.items trace) plain written
           c.in_ok-shown.ensures.raced c.in_ok-shown.ensures.trace
-          (subst (λ text. TextLeaves text settings entries plain.raced plain.output.items (option_map (λ bytes. bytes.items) plain.trace))
+          (subst (λ text. TextLeaves request.options.unknown_origin text settings entries plain.raced plain.output.items (option_map (λ bytes. bytes.items) plain.trace))
           c.deref.ensures.value c.in_ok-written.ensures.leaves);
       added = added_to request.file.now settings plain.output.items output c.run_additions-wanted.ensures c.deref-2.ensures.value
           c.in_ok-shown.ensures.output;

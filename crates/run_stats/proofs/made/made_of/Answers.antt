@@ -6,7 +6,7 @@ use Rattle.run_stats.proofs.MadeLemmas.{more_apart, more_below, none_before_none
 use Rattle.run_stats.specs.Runs.{IsNumbered, OneRun}
 use Rattle.prepared_program.specs.declared.program_sites.error.RunError.{RunError}
 use Rattle.runner.specs.declared.result.RunResult.{RunResult}
-use Rattle.run_stats.specs.Output.{reports_in}
+use Rattle.run_stats.specs.Output.{printed_in}
 use Rattle.run_stats.proofs.made.made_of.Goals as goal
 use Rattle.run_stats.proofs.made.made_of.Goals.{else-times-via-then-times+else-raced, else-times-via-else-times}
 
@@ -15,9 +15,9 @@ loop-run-init g c = record {
   made = record {
     runs = [];
     stuck = [];
-    made_are = c.new-made.ensures c.args.plan.now.program.now c.args.plan.now.settings.now (sites_in c.args.plan.now.prepared.now);
+    made_are = c.new-made.ensures c.args.plan.now.times.unknown_origin c.args.plan.now.program.now c.args.plan.now.settings.now (sites_in c.args.plan.now.prepared.now);
     many_are = refl;
-    first = λ stop. none_before_none;
+    first = λ stop. none_before_none c.args.plan.now.times.unknown_origin (sites_in c.args.plan.now.prepared.now);
     counted = λ off. refl;
     apart = λ i j d before within. absurd (omega (arith, within));
     numbers = λ at d below. absurd (omega (arith, below));
@@ -31,8 +31,10 @@ loop-run-init g c = record {
 pub loop-run-preserved : goal.loop-run-preserved
 loop-run-preserved g c =
     let was = c.loop-run.invariant.made in
-    let quiet : c.args.plan.now.times.stop_at_first ≡ true → reports_in was.runs ≡ [] = λ stop.
-    none_of (reports_in was.runs) (sym was.made_are.tallies.raced
+    let unknown = c.args.plan.now.times.unknown_origin in
+    let sites = sites_in c.args.plan.now.prepared.now in
+    let quiet : c.args.plan.now.times.stop_at_first ≡ true → printed_in unknown sites was.runs ≡ [] = λ stop.
+    none_of (printed_in unknown sites was.runs) (sym was.made_are.tallies.raced
     ∙ (elim c.else-times.branch [
       | else-times-via-then-times+else-raced w ↦ sym w.raced.ensures ∙ w.if-raced.false
       | else-times-via-else-times w ↦ absurd (let no : true ≡ false = sym stop ∙ w.if-times.false in cc)
@@ -47,7 +49,7 @@ loop-run-preserved g c =
           stuck = was.stuck;
           made_are = ended.2;
           many_are = let many = was.many_are in omega (arith, many, length-append was.runs (ended.0 ∷ []));
-          first = λ stop. quiet_before was.runs ended.0 (quiet stop);
+          first = λ stop. quiet_before unknown sites was.runs ended.0 (quiet stop);
           counted = was.counted;
           apart = more_apart was.runs ended.0 c.loop-run.run was.apart was.numbers (number ended.0 ended.1);
           numbers = more_below was.runs ended.0 c.loop-run.run was.numbers (number ended.0 ended.1);

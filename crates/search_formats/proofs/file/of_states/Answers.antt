@@ -13,8 +13,9 @@ returns c = λ of.
     let searched = c.args.searched in
     let sites = sites_in c.args.prepared.now in
     let spots = map (λ own. own.items) c.args.reading.now.places.items in
-    let reported_is = c.found-reported.ensures ∙ ap (λ (findings : Findings). findings.found) c.reported.ensures in
-    let ended_is = c.found-ended.ensures ∙ ap (λ (findings : Findings). findings.found) c.ended.ensures in
+    let reported_is = c.found-reported.ensures ∙ ap (λ (findings : Findings). findings.found) c.reported.ensures
+    ∙ c.keep_printed.ensures.reported in
+    let ended_is = c.found-ended.ensures ∙ ap (λ (findings : Findings). findings.found) (c.ended.ensures ∙ c.keep_printed.ensures.ended) in
     record {
       fit = c.requires.fit;
       sites = sites;

@@ -15,6 +15,7 @@ returns c = λ of enough.
     let searched = c.args.searched in
     let sites = sites_in c.args.prepared.now in
     let spots = map (λ own. own.items) c.args.reading.now.places.items in
+    let found_is = c.found-found.ensures ∙ c.keep_printed.ensures.found in
     record {
       fit = c.requires.fit;
       sites = sites;
@@ -30,6 +31,6 @@ returns c = λ of enough.
       spots = spots;
       output_is = c.in_ok-output.ensures
           ∙ same_written c.args.format c.args.name.now program c.args.text.now spots sites settings true searched.nodes _ _ _ _ _ _
-          c.found-found.ensures c.found-found.ensures c.is_stopped.ensures;
-      raced_is = c.has_reports.ensures ∙ ap (λ (found : SearchFindings). not (length found.reports == 0)) c.found-found.ensures;
+          found_is found_is c.is_stopped.ensures;
+      raced_is = c.has_reports.ensures ∙ ap (λ (found : SearchFindings). not (length found.reports == 0)) found_is;
     }

@@ -3,16 +3,16 @@ use Rattle.std.proofs.Common.{◌≡◌, ◌∙◌, ◌++◌, ◌+◌, ◌<◌, 
 use Rattle.std.proofs.lemmas.List.Sums.{count_by-le-length}
 use Rattle.report_text.specs.Groups.{AreGroupsOf, Group}
 use Rattle.report_text.specs.ReportOf.{report_text}
-use Rattle.run_stats.specs.Output.{found_text, held_in, reports_in, stuck_text, unbalanced_in}
+use Rattle.run_stats.specs.Output.{found_text, held_in, printed_in, stuck_text, unbalanced_in}
 use Rattle.task_log.specs.Counters.{resting}
 use Rattle.run_stats.proofs.made.Made.output.Goals as goal
 
 pub returns-in-Ok : goal.returns-in-Ok
-returns-in-Ok c = λ program settings sites runs stuck are_made are.
+returns-in-Ok c = λ unknown program settings sites runs stuck are_made are.
     let made = c.args.self.now in
     let tally = made.tally in
     let counted = c.args.counted in
-    let texts = map (report_text sites) (reports_in runs) in
+    let texts = map (report_text sites) (printed_in unknown sites runs) in
     let spelled : c.into_bytes.result.items ≡ found_text tally.groups tally.counters tally.unbalanced tally.held made.ended
     ++ stuck_text counted made.stuck (made.ended + made.stuck) = search rules in
     let tallies = are_made.tallies in
