@@ -1,2 +1,1 @@
-pub mod LongText
 pub mod Spelled

@@ -35,6 +35,9 @@ column_text style shape stamp column =
 abbrev pub cells : Style → Shape → (stamp : ℕ) → List Column → List ℕ
 cells style shape stamp columns = flat_map (column_text style shape stamp) columns
 
--- a line at the stamp
+-- a line at the stamp: what stands in front of its words, and these
+abbrev pub bars : Style → List Column → (stamp : ℕ) → Margin → Shape → List ℕ
+bars style columns stamp margin shape = margin_text margin ++ cells style shape stamp columns
+
 abbrev pub line_of : Style → List Column → (stamp : ℕ) → Margin → Shape → List ℕ → List ℕ
-line_of style columns stamp margin shape words = margin_text margin ++ (cells style shape stamp columns ++ words)
+line_of style columns stamp margin shape words = bars style columns stamp margin shape ++ words

@@ -1,9 +1,10 @@
 -- A picture, as text.
-use Rattle.std.specs.Prelude.{◌==◌, ◌++◌, ℕ, List, [], codes, if◌then◌else◌, length, nat_lt}
+use Rattle.std.specs.Prelude.{◌==◌, ◌++◌, ℕ, Bool, List, [], codes, false, if◌then◌else◌, length, nat_lt}
 use Rattle.std.specs.Fmt.{decimal}
 use Rattle.std.specs.List.{flat_map}
 use Rattle.timeline.specs.declared.picture.columns.Column.{Column}
 use Rattle.timeline.specs.declared.picture.draw.Picture.{Picture}
+use Rattle.timeline.specs.declared.picture.labels.Label.{Label}
 use Rattle.picture_text.specs.Rows.{rows_text}
 use Rattle.picture_text.specs.Watches.{gap_text, taking_text, watch_text}
 use Rattle.picture_text.specs.declared.cells.Style.{Style}
@@ -20,9 +21,13 @@ heading column = if length column.begins.items == 0 then [] else codes "P" ++ (d
 abbrev pub head_text : List Column → List ℕ
 head_text columns = codes "stamp  " ++ (flat_map heading columns ++ codes "access\n")
 
--- the picture: headings, rows, watchpoints and takings
-abbrev pub picture_text : Style → Picture → List ℕ
-picture_text style picture = head_text picture.columns.items
-    ++ (rows_text style picture.columns.items picture.rows.items
+-- the picture: headings, rows, watchpoints and takings, where this is known of sites, and indices are told or not
+abbrev pub detailed_picture : List Label → (slots : Bool) → Style → Picture → List ℕ
+detailed_picture labels slots style picture = head_text picture.columns.items
+    ++ (rows_text style picture.columns.items labels picture.rows.items
     ++ (gap_text picture.watches.items
-    ++ (flat_map watch_text picture.watches.items ++ flat_map taking_text picture.takings.items)))
+    ++ (flat_map (watch_text slots) picture.watches.items ++ flat_map (taking_text slots) picture.takings.items)))
+
+-- the same, where nothing more is known, without indices
+abbrev pub picture_text : Style → Picture → List ℕ
+picture_text style picture = detailed_picture [] false style picture

@@ -8,4 +8,4 @@ mod watches;
 mod write;
 
 pub use cells::Style;
-pub use write::write_picture;
+pub use write::{Details, write_detailed_picture, write_picture};

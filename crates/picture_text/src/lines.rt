@@ -101,6 +101,22 @@ fn write_cells<K: Sink>(
     Ok(())
 }
 
+/// Writes what stands in front of the words of a line at this stamp.
+pub(crate) fn write_bars<K: Sink>(
+    sink: &mut K,
+    style: Style,
+    columns: &[Column],
+    stamp: u64,
+    margin: Margin,
+    shape: Shape,
+) -> Result<(), WriteError>
+    requires { All IsInOrder columns.now }
+    ensures { Writes K.written K.failures result (spec.bars style columns.now stamp margin shape) sink.old sink.new }
+{
+    write_margin(sink, margin)?;
+    write_cells(sink, style, shape, stamp, columns)
+}
+
 /// Writes a line at this stamp.
 pub(crate) fn write_line<K: Sink>(
     sink: &mut K,
@@ -115,7 +131,6 @@ pub(crate) fn write_line<K: Sink>(
     ensures { Writes K.written K.failures result (line_of style columns.now stamp margin shape (text_of_parts words.now))
         sink.old sink.new }
 {
-    write_margin(sink, margin)?;
-    write_cells(sink, style, shape, stamp, columns)?;
+    write_bars(sink, style, columns, stamp, margin, shape)?;
     write_parts(sink, words)
 }

@@ -3,6 +3,8 @@
 ghost use Rattle.std.specs.Prelude.{◌≡◌};
 ghost use Rattle.std.specs.List.{flat_map};
 ghost use Rattle.report_text.specs.Sink.{Writes};
+ghost use Rattle.report_text.specs.Pieces.{text_of};
+ghost use Rattle.picture_text.specs.Watches as spec;
 ghost use Rattle.picture_text.specs.Watches.{gap_text, taking_text, watch_text};
 
 use report_text::pieces::{Piece, write_parts};
@@ -20,22 +22,34 @@ pub(crate) fn write_gap<K: Sink>(sink: &mut K, watches: &[Watch]) -> Result<(), 
     }
 }
 
-/// Writes a watchpoint: who set it up, at which index, and what became of it.
-fn write_watch<K: Sink>(sink: &mut K, watch: &Watch) -> Result<(), WriteError>
-    ensures { Writes K.written K.failures result (watch_text watch.now) sink.old sink.new }
+/// The index of a watchpoint, where slots are shown.
+fn index_words(slots: bool, index: usize) -> [Piece; 3]
+    ensures { text_of result ≡ spec.index_words slots index }
+{
+    let blanks = Piece::Text("   ");
+    match slots {
+        true => [
+            Piece::Text("   index "),
+            Piece::Decimal(index as u64),
+            blanks,
+        ],
+        false => [blanks, Piece::Text(""), Piece::Text("")],
+    }
+}
+
+/// Writes a watchpoint: who set it up, at which index, where slots are shown, and what became of it.
+fn write_watch<K: Sink>(sink: &mut K, slots: bool, watch: &Watch) -> Result<(), WriteError>
+    ensures { Writes K.written K.failures result (watch_text slots watch.now) sink.old sink.new }
 {
     let setter = place_of(&watch.setter);
+    let index = index_words(slots, watch.arm.index());
     let outcome = outcome_words(watch.arm.outcome());
     write_parts(
         sink,
         &[
             &[Piece::Text("arm   ")],
             &setter[..],
-            &[
-                Piece::Text("   index "),
-                Piece::Decimal(watch.arm.index() as u64),
-                Piece::Text("   "),
-            ],
+            &index[..],
             &outcome[..],
             &[Piece::Text("\n")],
         ],
@@ -43,31 +57,33 @@ fn write_watch<K: Sink>(sink: &mut K, watch: &Watch) -> Result<(), WriteError>
 }
 
 /// Writes watchpoints.
-pub(crate) fn write_watches<K: Sink>(sink: &mut K, watches: &[Watch]) -> Result<(), WriteError>
-    ensures { Writes K.written K.failures result (flat_map watch_text watches.now) sink.old sink.new }
+pub(crate) fn write_watches<K: Sink>(
+    sink: &mut K,
+    slots: bool,
+    watches: &[Watch],
+) -> Result<(), WriteError>
+    ensures { Writes K.written K.failures result (flat_map (watch_text slots) watches.now) sink.old sink.new }
 {
     for watch in watches {
-        write_watch(sink, watch)?;
+        write_watch(sink, slots, watch)?;
     }
     Ok(())
 }
 
-/// Writes a taking: who took, at which index, and who had set up.
-fn write_taking<K: Sink>(sink: &mut K, taking: &Taking) -> Result<(), WriteError>
-    ensures { Writes K.written K.failures result (taking_text taking.now) sink.old sink.new }
+/// Writes a taking: who took, at which index, where slots are shown, and who had set up.
+fn write_taking<K: Sink>(sink: &mut K, slots: bool, taking: &Taking) -> Result<(), WriteError>
+    ensures { Writes K.written K.failures result (taking_text slots taking.now) sink.old sink.new }
 {
     let finder = place_of(&taking.finder);
+    let index = index_words(slots, taking.take.index());
     let setter = place_of(&taking.setter);
     write_parts(
         sink,
         &[
             &[Piece::Text("take  ")],
             &finder[..],
-            &[
-                Piece::Text("   index "),
-                Piece::Decimal(taking.take.index() as u64),
-                Piece::Text("   set up by "),
-            ],
+            &index[..],
+            &[Piece::Text("set up by ")],
             &setter[..],
             &[Piece::Text("\n")],
         ],
@@ -75,11 +91,15 @@ fn write_taking<K: Sink>(sink: &mut K, taking: &Taking) -> Result<(), WriteError
 }
 
 /// Writes takings.
-pub(crate) fn write_takings<K: Sink>(sink: &mut K, takings: &[Taking]) -> Result<(), WriteError>
-    ensures { Writes K.written K.failures result (flat_map taking_text takings.now) sink.old sink.new }
+pub(crate) fn write_takings<K: Sink>(
+    sink: &mut K,
+    slots: bool,
+    takings: &[Taking],
+) -> Result<(), WriteError>
+    ensures { Writes K.written K.failures result (flat_map (taking_text slots) takings.now) sink.old sink.new }
 {
     for taking in takings {
-        write_taking(sink, taking)?;
+        write_taking(sink, slots, taking)?;
     }
     Ok(())
 }

@@ -12,6 +12,7 @@ use crate::rows::write_rows;
 use crate::watches::{write_gap, write_takings, write_watches};
 use report_text::pieces::{Piece, write_pieces};
 use report_text::{Sink, WriteError, write_all};
+use timeline::picture::labels::Label;
 use timeline::picture::{Column, Picture};
 
 /// What fills the heading of a task up to seven signs.
@@ -57,8 +58,39 @@ fn write_head<K: Sink>(sink: &mut K, columns: &[Column]) -> Result<(), WriteErro
     write_all(sink, b"access\n")
 }
 
+/// What a picture tells beside what a trace has.
+#[derive(Clone, Copy)]
+pub struct Details<'a> {
+    /// What is known of sites.
+    pub labels: &'a [Label<'a>],
+    /// The index of each watchpoint is told.
+    pub slots: bool,
+}
+
 /// Writes the picture: a line of headings; then the rows, time downwards, with a column for each task that has
-/// accesses; and under them the watchpoints that were set up and those that were taken.
+/// accesses; and under them the watchpoints that were set up and those that were taken. Of a site that has a label the
+/// variable is named in place of its address, and the statement stands below.
+///
+/// `SinkFailed`: the sink failed in this call, and holds a beginning of the text.
+pub fn write_detailed_picture<K: Sink>(
+    picture: &Picture,
+    details: Details<'_>,
+    style: Style,
+    sink: &mut K,
+) -> Result<(), WriteError>
+    requires { IsOrdered picture.now }
+    ensures { Writes K.written K.failures result
+        (spec.detailed_picture details.entry.labels.now details.entry.slots style picture.now) sink.old sink.new }
+{
+    let slots = details.slots;
+    write_head(sink, &picture.columns)?;
+    write_rows(sink, style, &picture.columns, details.labels, &picture.rows)?;
+    write_gap(sink, &picture.watches)?;
+    write_watches(sink, slots, &picture.watches)?;
+    write_takings(sink, slots, &picture.takings)
+}
+
+/// Writes the picture of a trace of which nothing more is known, without indices.
 ///
 /// `SinkFailed`: the sink failed in this call, and holds a beginning of the text.
 pub fn write_picture<K: Sink>(
@@ -69,9 +101,9 @@ pub fn write_picture<K: Sink>(
     requires { IsOrdered picture.now }
     ensures { Writes K.written K.failures result (picture_text style picture.now) sink.old sink.new }
 {
-    write_head(sink, &picture.columns)?;
-    write_rows(sink, style, &picture.columns, &picture.rows)?;
-    write_gap(sink, &picture.watches)?;
-    write_watches(sink, &picture.watches)?;
-    write_takings(sink, &picture.takings)
+    let nothing = Details {
+        labels: &[],
+        slots: false,
+    };
+    write_detailed_picture(picture, nothing, style, sink)
 }

@@ -8,3 +8,5 @@ pub mod Columns
 pub mod Drawn
 pub mod Ordered
 pub mod Words
+pub mod Labels
+pub mod Told

@@ -1,8 +1,10 @@
-pub mod Title
+pub mod Lines
+pub mod Notes
+pub mod Lanes
+pub mod Captions
 pub mod Legend
 pub mod Bars
 pub mod Reports
 pub mod Marks
-pub mod Widths
 pub mod Watches
 pub mod Svg

@@ -3,13 +3,16 @@
 mod columns;
 mod draw;
 mod error;
+pub mod labels;
 mod named;
 mod parts;
 mod rows;
+pub mod told;
 mod watches;
 pub mod words;
 
 pub use columns::Column;
+pub(crate) use columns::TASKS;
 pub use draw::{ACCESS_LIMIT, Picture, picture_of};
 pub use error::PictureError;
 pub use rows::{Mark, Row, rows_before};

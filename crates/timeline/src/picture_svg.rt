@@ -1,12 +1,15 @@
 //! The picture of a trace, as a file in SVG.
 
 mod bars;
+mod captions;
+mod lanes;
 mod legend;
+mod lines;
 mod marks;
+mod notes;
 mod reports;
-mod title;
 mod watches;
-mod widths;
 mod write;
 
-pub use write::write_svg;
+pub use captions::Captions;
+pub use write::{write_captioned_svg, write_svg};

@@ -75,17 +75,19 @@ heads_apart rest more e =
     absurd cc
 
 shapes_same : (slots others : ℕ) (layout other : Layout) (rest more : List ℕ) → MayHaveSlots slots → MayHaveSlots others
-    → shape_line slots layout ++ rest ≡ shape_line others other ++ more → rest ≡ more
+    → shape_line slots layout ++ rest ≡ shape_line others other ++ more → (second slots layout ≡ second others other) × (rest ≡ more)
 shapes_same slots others layout other rest more may may_other e =
     let one : Shape = record { slots = slots; layout = layout } in
     let two : Shape = record { slots = others; layout = other } in
     let same : ◌≡◌ {A = Shape × List ℕ} (one, rest) (two, more) = same_given (one, rest) (two, more)
-    (sym (shape_there one rest may) ∙ ap shape_at e ∙ shape_there two more may_other) in
-    ap (λ (p : Shape × List ℕ). p.1) same
+    (sym (shape_there one rest may) ∙ ap shape_at e ∙ shape_there two more may_other) in (
+      ap (λ (p : Shape × List ℕ). second p.0.slots p.0.layout) same,
+      ap (λ (p : Shape × List ℕ). p.1) same,
+    )
 
 heads_same : (one other : Head) (rest more : List ℕ) → HeadStands one → HeadStands other → head_text one ++ rest ≡ head_text other ++ more
-    → rest ≡ more
-heads_same first first rest more h k e = append_cancel_left first_version rest more e
+    → (one ≡ other) × (rest ≡ more)
+heads_same first first rest more h k e = (refl, append_cancel_left first_version rest more e)
 heads_same first (second slots layout) rest more h k e =
     absurd (heads_apart rest (shape_line slots layout ++ more) (e ∙ append_assoc second_version (shape_line slots layout) more))
 heads_same (second slots layout) first rest more h k e =
@@ -94,14 +96,23 @@ heads_same (second slots layout) (second others other) rest more h k e = shapes_
     (append_cancel_left second_version _ _
     (sym (append_assoc second_version (shape_line slots layout) rest) ∙ e ∙ append_assoc second_version (shape_line others other) more))
 
--- behind the head of a true trace stand its lines in plain form
+-- the head of a true trace is the one that is read, and what stands behind it is its lines in plain form
+behind_head : (bytes : List ℕ) (head other : Head) (all : List Line) (rest : List ℕ) → IsTrueTrace bytes head all
+    → IsHeadAt bytes other rest → (other ≡ head) × (rest ≡ flat_map line_text (map plain_line all) ++ end_line)
+behind_head bytes head other all rest h at =
+    heads_same other head rest (flat_map line_text (map plain_line all) ++ end_line) at.stands h.begins.head_stands
+    (sym at.spelled ∙ h.begins.spelled ∙ append_assoc (head_text head) (flat_map line_text all) end_line
+    ∙ ap (λ xs. head_text head ++ (xs ++ end_line)) (sym (plain_texts all)))
+
+pub head_read : (bytes : List ℕ) (head other : Head) (all : List Line) (rest : List ℕ) → IsTrueTrace bytes head all
+    → IsHeadAt bytes other rest → other ≡ head
+head_read bytes head other all rest h at = (behind_head bytes head other all rest h at).0
+
 pub spelled_behind : (bytes : List ℕ) (head other : Head) (all : List Line) (rest : List ℕ) → IsTrueTrace bytes head all
     → IsHeadAt bytes other rest → AreSpelled (map plain_line all) rest
 spelled_behind bytes head other all rest h at = record {
   plain = are_plain head [] all h.begins.head_stands (keep_limits bytes head all end_line h.begins) h.begins.lines_true;
-  spelled = heads_same other head rest (flat_map line_text (map plain_line all) ++ end_line) at.stands h.begins.head_stands
-      (sym at.spelled ∙ h.begins.spelled ∙ append_assoc (head_text head) (flat_map line_text all) end_line
-      ∙ ap (λ xs. head_text head ++ (xs ++ end_line)) (sym (plain_texts all)));
+  spelled = (behind_head bytes head other all rest h at).1;
 }
 
 -- ---- line by line

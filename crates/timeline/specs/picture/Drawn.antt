@@ -1,5 +1,5 @@
 -- The picture of a trace.
-use Rattle.std.specs.Prelude.{◌<◌, ◌≤◌, ℕ, List, length}
+use Rattle.std.specs.Prelude.{◌≡◌, ◌<◌, ◌≤◌, ℕ, List, length}
 use Rattle.std.specs.List.{AllZip}
 use Rattle.access_types.specs.Arms.{Arm}
 use Rattle.access_types.specs.Stamped.{Stamped}
@@ -10,6 +10,7 @@ use Rattle.report_text.specs.Standing.{accesses_of, arms_of, reports_of, takes_o
 use Rattle.report_text.specs.TraceText.{Head}
 use Rattle.report_text.specs.declared.line.Line.{Line}
 use Rattle.trace_replay.specs.Answer.{IsRefused}
+use Rattle.trace_replay.specs.trace_lines.HeadReading.{head_of}
 use Rattle.timeline.specs.picture.Columns.{IsColumnOf, tasks}
 use Rattle.timeline.specs.picture.Rows.{AreRows}
 use Rattle.timeline.specs.picture.Watches.{IsTakingOf, IsWatchOf}
@@ -29,9 +30,10 @@ pub record Shows (accesses : List Stamped) (arms : List Arm) (takes : List Take)
 abbrev pub access_limit : ℕ
 access_limit = 10000
 
--- the bytes are a true trace, and the picture shows it
+-- the bytes are a true trace, and the picture shows it, with its head
 pub record IsPictureOf (bytes : List ℕ) (picture : Picture) : Type 0 where
   pub head : Head
+  pub head_is : head_of picture.head ≡ head
   pub all : List Line
   pub is_true : IsTrueTrace bytes head all
   pub within : length (accesses_of all) ≤ access_limit

@@ -1,6 +1,7 @@
 -- What is said of an access.
-use Rattle.std.specs.Prelude.{◌&&◌, ◌++◌, ℕ, List, [], codes, if◌then◌else◌, not}
+use Rattle.std.specs.Prelude.{◌&&◌, ◌++◌, ◌∷◌, ℕ, List, [], codes, if◌then◌else◌, not}
 use Rattle.std.specs.Fmt.{decimal}
+use Rattle.std.specs.List.{concat}
 use Rattle.access_types.specs.Kind.{access_words, is_marked}
 use Rattle.access_types.specs.ReportText.{hex, repeat_words}
 use Rattle.access_types.specs.Stamped.{Stamped}
@@ -20,9 +21,13 @@ place_of s = place s.access.task s.access.site s.access.rep
 abbrev pub place_in : ℕ → List ℕ
 place_in ticket = place (task_in ticket) (site_in ticket) (rep_in ticket)
 
--- what it does, and where, as P0 read 0x10000
-abbrev pub deed : Stamped → List ℕ
-deed s = codes "P" ++ decimal s.access.task ++ codes " " ++ access_words s.access.kind ++ codes " 0x" ++ hex 1 s.access.addr
+-- what it does, in front of where it does it, as P0 read
+abbrev pub doing : Stamped → List ℕ
+doing s = concat (codes "P" ∷ decimal s.access.task ∷ codes " " ∷ access_words s.access.kind ∷ codes " " ∷ [])
+
+-- the address of its first byte, as 0x10000
+abbrev pub address : Stamped → List ℕ
+address s = codes "0x" ++ hex 1 s.access.addr
 
 -- how many bytes it has
 abbrev pub size_words : Stamped → List ℕ
@@ -30,7 +35,7 @@ size_words s = decimal s.access.size ++ codes " bytes"
 
 -- it counted as marked, and isn't declared so; it was silenced
 abbrev pub marked_words : Stamped → List ℕ
-marked_words s = if s.marked && not (is_marked s.access.kind) then codes " (marked)" else []
+marked_words s = if s.marked && not (is_marked s.access.kind) then codes " (counts as marked)" else []
 
 abbrev pub silenced_words : Stamped → List ℕ
 silenced_words s = if s.silenced then codes " (silenced)" else []

@@ -1,69 +1,52 @@
 -- Watchpoints, and arrows to them from those that took them.
-use Rattle.std.specs.Prelude.{◌-◌, ◌*◌, ◌++◌, ℕ, Bool, List, [], codes, false, if◌then◌else◌, max, min, true}
+use Rattle.std.specs.Prelude.{◌+◌, ◌-◌, ◌^◌, ◌∷◌, ℕ, List, [], None, Option, Some, codes, max, min}
 use Rattle.std.specs.Fmt.{decimal}
-use Rattle.access_types.specs.declared.arms.ArmOutcome.{ArmOutcome}
-use Rattle.access_types.specs.declared.arms.ArmOutcome.TheVariants.{Quiet, Origin, Hit}
-use Rattle.access_types.specs.declared.arms.HitResult.{HitResult}
-use Rattle.access_types.specs.declared.arms.HitResult.TheVariants.{Report, Encoding, Same, Masked}
+use Rattle.std.specs.List.{concat}
+use Rattle.access_types.specs.Stamped.{Stamped}
 use Rattle.timeline.specs.picture.Ordered.{rows_before}
-use Rattle.timeline.specs.picture.Words.{outcome_words, place_of, result_word}
+use Rattle.timeline.specs.picture.Words.{outcome_words, place_of}
 use Rattle.timeline.specs.declared.picture.rows.Row.{Row}
 use Rattle.timeline.specs.declared.picture.watches.Taking.{Taking}
 use Rattle.timeline.specs.declared.picture.watches.Watch.{Watch}
-use Rattle.timeline.specs.picture_svg.Bars.{lane}
+use Rattle.timeline.specs.declared.picture_svg.lanes.Lanes.{Lanes}
+use Rattle.timeline.specs.picture_svg.Lanes.{start}
+use Rattle.timeline.specs.picture_svg.Lines.{row_top}
 
 -- a thin bar in a lane
-abbrev pub watch_rect : (x top height : ℕ) → List ℕ
-watch_rect x top height = codes "</title><rect x=\"" ++ decimal x ++ codes ".4em\" y=\"" ++ decimal top
-    ++ codes "em\" width=\"0.2em\" height=\"" ++ decimal height ++ codes "em\"/>"
+abbrev pub watch_rect : (x top bottom : ℕ) → List ℕ
+watch_rect x top bottom = concat (codes "</title><rect x=\"" ∷ decimal x ∷ codes ".4em\" y=\"" ∷ decimal top
+    ∷ codes "em\" width=\"0.2em\" height=\"" ∷ decimal (bottom - top) ∷ codes "em\"/></g>\n" ∷ [])
 
--- it gave a report of two accesses
-abbrev pub is_report : HitResult → Bool
-is_report Report = true
-is_report Encoding = false
-is_report Same = false
-is_report Masked = false
+-- an index, between words
+abbrev pub index_words : (before : List ℕ) → (index : ℕ) → (behind : List ℕ) → List ℕ
+index_words before index behind = concat (before ∷ decimal index ∷ behind ∷ [])
 
-abbrev pub is_reported : ArmOutcome → Bool
-is_reported Quiet = false
-is_reported Origin = false
-is_reported (Hit finder result) = is_report result
+-- where the bar of a watchpoint ends: that of one that was taken, below the row in which the later of the two accesses
+-- begins; any other where its access ends
+abbrev pub end_with : List Row → (setter : Stamped) → (finder : Option Stamped) → ℕ
+end_with rows setter None = row_top (rows_before rows setter.end)
+end_with rows setter (Some finder) =
+    min (min (row_top (rows_before rows (max setter.begin finder.begin)) + 2) (2 ^ 64 - 1)) (row_top (rows_before rows setter.end))
 
--- in a word what became of it
-abbrev pub outcome_word : ArmOutcome → List ℕ
-outcome_word Quiet = codes "quiet"
-outcome_word Origin = codes "unknown origin"
-outcome_word (Hit finder result) = result_word result
+abbrev pub watch_end : List Row → Watch → ℕ
+watch_end rows watch = end_with rows watch.setter watch.finder
 
--- the word, in the row in which the access ends, where no other text is; those of up to a hundred watchpoints of one
--- access stand side by side
-abbrev pub word_text : (x bottom number : ℕ) → (word : List ℕ) → List ℕ
-word_text x bottom number word = codes "<text x=\"" ++ decimal x ++ codes ".3em\" dx=\"1em\" y=\"" ++ decimal bottom
-    ++ codes ".5em\"><tspan dx=\"" ++ decimal (9 * min number 100) ++ codes "em\">" ++ word
-    ++ codes "</tspan></text>"
-
--- what became of a watchpoint that gave no report of two accesses
-abbrev pub beside : (x bottom number : ℕ) → ArmOutcome → List ℕ
-beside x bottom number outcome = if is_reported outcome then [] else word_text x bottom number (outcome_word outcome)
-
--- a watchpoint, as long as its access
-abbrev pub watch_text : List Row → Watch → List ℕ
-watch_text rows watch = codes "<g class=\"watch\"><title>" ++ (place_of watch.setter
-    ++ (codes ", index " ++ (decimal watch.arm.index ++ (codes ", " ++ (outcome_words watch.arm.outcome
-    ++ (watch_rect (lane watch.setter.access.task) (rows_before rows watch.setter.begin)
-    (rows_before rows watch.setter.end - rows_before rows watch.setter.begin)
-    ++ (beside (lane watch.setter.access.task) (rows_before rows watch.setter.end) watch.arm.number watch.arm.outcome
-    ++ codes "</g>\n")))))))
+-- a watchpoint, from where its access begins to there
+abbrev pub watch_text : Lanes → List Row → Watch → List ℕ
+watch_text lanes rows watch = concat (codes "<g class=\"watch\"><title>" ∷ place_of watch.setter
+    ∷ index_words (codes ", index ") watch.arm.index (codes ", ") ∷ outcome_words watch.arm.outcome
+    ∷ watch_rect (start lanes watch.setter.access.task) (row_top (rows_before rows watch.setter.begin))
+    (watch_end rows watch) ∷ [])
 
 -- an arrow from lane to lane, above the words of an access in the same row
-abbrev pub arrow : (from to y : ℕ) → List ℕ
-arrow from to y = codes "</title><line x1=\"" ++ decimal from ++ codes ".5em\" y1=\"" ++ decimal y
-    ++ codes ".1em\" x2=\"" ++ decimal to ++ codes ".5em\" y2=\"" ++ decimal y
-    ++ codes ".1em\" marker-end=\"url(#tip)\"/></g>\n"
+abbrev pub arrow : (from to top : ℕ) → List ℕ
+arrow from to top = concat (codes "</title><line x1=\"" ∷ decimal from ∷ codes ".5em\" y1=\"" ∷ decimal top
+    ∷ codes ".1em\" x2=\"" ∷ decimal to ∷ codes ".5em\" y2=\"" ∷ decimal top
+    ∷ codes ".1em\" marker-end=\"url(#tip)\"/></g>\n" ∷ [])
 
 -- a taking, where the later of its two accesses begins
-abbrev pub taking_text : List Row → Taking → List ℕ
-taking_text rows taking = codes "<g class=\"take\"><title>" ++ (place_of taking.finder
-    ++ (codes " took index " ++ (decimal taking.take.index ++ (codes " of " ++ (place_of taking.setter
-    ++ arrow (lane taking.finder.access.task) (lane taking.setter.access.task)
-    (rows_before rows (max taking.setter.begin taking.finder.begin)))))))
+abbrev pub taking_text : Lanes → List Row → Taking → List ℕ
+taking_text lanes rows taking = concat (codes "<g class=\"take\"><title>" ∷ place_of taking.finder
+    ∷ index_words (codes " took index ") taking.take.index (codes " of ") ∷ place_of taking.setter
+    ∷ arrow (start lanes taking.finder.access.task) (start lanes taking.setter.access.task)
+    (row_top (rows_before rows (max taking.setter.begin taking.finder.begin))) ∷ [])

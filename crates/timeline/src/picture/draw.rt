@@ -1,6 +1,6 @@
 //! The picture of a trace.
 
-ghost use Rattle.std.specs.Prelude.{IfErr, IfOk};
+ghost use Rattle.std.specs.Prelude.{◌≡◌, IfErr, IfOk};
 ghost use Rattle.timeline.specs.picture.Drawn.{IsPictureOf, IsUndrawn, Shows};
 ghost use Rattle.timeline.specs.picture.Ordered.{IsOrdered};
 ghost use Rattle.timeline.specs.picture.Sound.{IsSound};
@@ -12,7 +12,7 @@ use crate::picture::parts::{Parts, read_parts};
 use crate::picture::rows::{Row, rows};
 use crate::picture::watches::{Taking, Watch, takings, watches};
 use std::alloc::{AllocError, Global};
-use trace_replay::trace_lines::read_head;
+use trace_replay::trace_lines::{Head, read_head};
 use trace_replay::{TraceError, replay};
 
 /// A picture has at most so many accesses.
@@ -21,6 +21,8 @@ pub const ACCESS_LIMIT: usize = 10_000;
 /// What is drawn of a trace.
 #[derive(Drop)]
 pub struct Picture {
+    /// The trace's version and, in version 2, its slots and the layout of its watch words.
+    pub head: Head,
     /// One of each task, from 0 to 15.
     pub columns: Vec<Column>,
     /// In rising order of their stamps.
@@ -31,13 +33,15 @@ pub struct Picture {
     pub takings: Vec<Taking>,
 }
 
-/// The picture of the lines.
-fn drawn(alloc: Global, parts: &Parts) -> Result<Picture, AllocError>
+/// The picture of the lines behind a head.
+fn drawn(alloc: Global, head: Head, parts: &Parts) -> Result<Picture, AllocError>
     requires { IsSound parts.now.accesses.items parts.now.arms.items parts.now.takes.items parts.now.reports.items }
-    ensures { IfOk result (Shows parts.now.accesses.items parts.now.arms.items parts.now.takes.items parts.now.reports.items) }
+    ensures head { IfOk result (λ picture. picture.head ≡ head) }
+    ensures shows { IfOk result (Shows parts.now.accesses.items parts.now.arms.items parts.now.takes.items parts.now.reports.items) }
 {
     let named = Named::new(alloc, &parts.accesses)?;
     Ok(Picture {
+        head,
         columns: columns(alloc, &parts.accesses)?,
         rows: rows(alloc, &named, &parts.accesses, &parts.reports)?,
         watches: watches(alloc, &named, &parts.arms)?,
@@ -56,14 +60,14 @@ pub fn picture_of(alloc: Global, bytes: &[u8]) -> Result<Picture, PictureError>
     if let Err(fault) = replay(alloc, bytes) {
         return Err(PictureError::Trace(fault));
     }
-    let rest = match read_head(bytes) {
-        Ok((_head, rest)) => rest,
+    let (head, rest) = match read_head(bytes) {
+        Ok(read) => read,
         Err(line) => return Err(PictureError::Trace(TraceError::BadTrace { line })),
     };
     let parts = read_parts(alloc, rest)?;
     if parts.accesses.len() > ACCESS_LIMIT {
         return Err(PictureError::TooLong);
     }
-    let picture = drawn(alloc, &parts)?;
+    let picture = drawn(alloc, head, &parts)?;
     Ok(picture)
 }

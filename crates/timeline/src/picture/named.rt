@@ -4,8 +4,9 @@ ghost use Rattle.std.specs.Prelude.{List, IfOk};
 ghost use Rattle.access_types.specs.Stamped as spec;
 ghost use Rattle.trace_replay.specs.Accesses.{IsNamed};
 ghost use Rattle.timeline.specs.picture.Named.{AreNamed};
+ghost use Rattle.timeline.specs.picture.Watches.{IsFinderOf};
 
-use access_types::{Stamped, ticket};
+use access_types::{ArmOutcome, Stamped, ticket};
 use std::alloc::{AllocError, Global};
 use std::collections::BTreeMap;
 
@@ -33,5 +34,15 @@ impl Named {
         ensures { (accesses : List spec.Stamped) → AreNamed accesses self.now → IsNamed accesses ticket result }
     {
         *self.by_ticket.get(&ticket).unwrap()
+    }
+
+    /// The access that took a watchpoint that came to this end, if one did.
+    pub(crate) fn finder(&self, outcome: ArmOutcome) -> Option<Stamped>
+        ensures { (accesses : List spec.Stamped) → AreNamed accesses self.now → IsFinderOf accesses outcome result }
+    {
+        match outcome {
+            ArmOutcome::Quiet | ArmOutcome::Origin => None,
+            ArmOutcome::Hit { finder, .. } => self.by_ticket.get(&finder).copied(),
+        }
     }
 }

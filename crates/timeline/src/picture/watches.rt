@@ -11,11 +11,12 @@ use crate::picture::named::Named;
 use access_types::{Arm, Stamped, Take};
 use std::alloc::{AllocError, Global};
 
-/// A watchpoint that was set up, and the access that did.
+/// A watchpoint that was set up, the access that did, and the one that took it, if one did.
 #[derive(Clone, Copy)]
 pub struct Watch {
     pub arm: Arm,
     pub setter: Stamped,
+    pub finder: Option<Stamped>,
 }
 
 /// A watchpoint that was taken, with the access that took it and the one that had set it up.
@@ -37,6 +38,7 @@ pub(crate) fn watches(alloc: Global, named: &Named, arms: &[Arm]) -> Result<Vec<
         watches.push(Watch {
             arm: *arm,
             setter: named.the(arm.setter()),
+            finder: named.finder(arm.outcome()),
         })?;
     }
     Ok(watches)

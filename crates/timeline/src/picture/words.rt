@@ -61,9 +61,9 @@ fn repeat_words(rep: u32) -> (Piece, Piece)
     }
 }
 
-/// What the access does, and where.
-pub fn deed(stamped: &Stamped) -> [Piece; 6]
-    ensures { text_of result ≡ spec.deed stamped.now }
+/// What the access does, in front of where it does it.
+pub fn doing(stamped: &Stamped) -> [Piece; 5]
+    ensures { text_of result ≡ spec.doing stamped.now }
 {
     let access = stamped.access();
     [
@@ -71,9 +71,15 @@ pub fn deed(stamped: &Stamped) -> [Piece; 6]
         Piece::Decimal(access.task() as u64),
         Piece::Text(" "),
         Piece::Text(words(&access.kind())),
-        Piece::Text(" 0x"),
-        Piece::Hex(1, access.addr()),
+        Piece::Text(" "),
     ]
+}
+
+/// The address of its first byte.
+pub fn address(stamped: &Stamped) -> [Piece; 2]
+    ensures { text_of result ≡ spec.address stamped.now }
+{
+    [Piece::Text("0x"), Piece::Hex(1, stamped.access().addr())]
 }
 
 /// How many bytes it has.
@@ -107,7 +113,7 @@ fn marked_words(stamped: &Stamped) -> &'static str
     ensures { result.now ≡ spec.marked_words stamped.now }
 {
     if stamped.marked() && !stamped.access().kind().is_marked() {
-        " (marked)"
+        " (counts as marked)"
     } else {
         ""
     }

@@ -1,20 +1,19 @@
-//! Bars of accesses. Lengths are in em: a row is one em high, and a lane twenty wide.
+//! Bars of accesses, with their labels.
 
 ghost use Rattle.std.specs.Prelude.{◌≡◌};
+ghost use Rattle.report_text.specs.Pieces.{text_of};
 ghost use Rattle.report_text.specs.Sink.{Writes};
 ghost use Rattle.timeline.specs.picture_svg.Bars as spec;
 
-use crate::picture::words::{deed, site_words, size_words};
+use crate::picture::labels::{Label, statement_of};
+use crate::picture::told::write_first;
+use crate::picture::words::site_words;
+use crate::picture_svg::lanes::Lanes;
+use crate::picture_svg::lines::{LINE_END, line_start, row_top};
+use crate::texts::{Markup, write_shortened};
 use access_types::Stamped;
-use report_text::pieces::{Piece, write_parts};
-use report_text::{Sink, WriteError};
-
-/// Where the lane of a task begins.
-pub(crate) fn lane(task: u32) -> u64
-    ensures { result ≡ spec.lane task }
-{
-    1 + 20 * u64::from(task)
-}
+use report_text::pieces::{Piece, write_parts, write_pieces};
+use report_text::{Sink, WriteError, write_all};
 
 /// How an access is drawn: one that counted as marked, an assertion, or a plain one.
 fn class(stamped: &Stamped) -> &'static str
@@ -29,44 +28,76 @@ fn class(stamped: &Stamped) -> &'static str
     }
 }
 
-/// Writes the bar of an access, from one row down to another.
+/// The bar of an access, in the lane at x.
+fn bar_rect(stamped: &Stamped, x: u64, top: u64, bottom: u64) -> [Piece; 9]
+    ensures { text_of result ≡ spec.bar_rect stamped.now x top bottom }
+{
+    [
+        Piece::Text("<g class=\""),
+        Piece::Text(class(stamped)),
+        Piece::Text("\"><rect x=\""),
+        Piece::Decimal(x),
+        Piece::Text("em\" y=\""),
+        Piece::Decimal(top),
+        Piece::Text("em\" width=\"1em\" height=\""),
+        Piece::Decimal(bottom.saturating_sub(top)),
+        Piece::Text("em\"/>"),
+    ]
+}
+
+/// Writes the bar, and of its label the two lines that each has.
+fn write_bar_lines<K: Sink>(
+    sink: &mut K,
+    labels: &[Label<'_>],
+    stamped: &Stamped,
+    x: u64,
+    top: u64,
+    bottom: u64,
+) -> Result<(), WriteError>
+    ensures { Writes K.written K.failures result (spec.bar_lines labels.now stamped.now x top bottom) sink.old sink.new }
+{
+    let rect = bar_rect(stamped, x, top, bottom);
+    let first = line_start(x, top, "0.65");
+    let second = line_start(x, top, "1.2");
+    let site = site_words(stamped);
+    let end = Piece::Text(LINE_END);
+    write_parts(sink, &[&rect[..], &first[..]])?;
+    write_first(sink, Markup::Xml, labels, stamped)?;
+    write_parts(sink, &[&[end], &second[..], &site[..], &[end]])
+}
+
+/// Writes the third line of a label, where the statement is known.
+fn write_statement<K: Sink>(
+    sink: &mut K,
+    statement: &[u8],
+    x: u64,
+    top: u64,
+) -> Result<(), WriteError>
+    ensures { Writes K.written K.failures result (spec.statement_line statement.now x top) sink.old sink.new }
+{
+    if statement.is_empty() {
+        return Ok(());
+    }
+    write_pieces(sink, &line_start(x, top, "1.75"))?;
+    write_shortened(sink, Markup::Xml, statement)?;
+    write_all(sink, LINE_END.as_bytes())
+}
+
+/// Writes the bar of an access, from one row down to another, with its label.
 pub(crate) fn write_bar<K: Sink>(
     sink: &mut K,
+    labels: &[Label<'_>],
+    lanes: &Lanes,
     stamped: &Stamped,
     top: usize,
     bottom: usize,
 ) -> Result<(), WriteError>
-    ensures { Writes K.written K.failures result (spec.bar stamped.now top bottom) sink.old sink.new }
+    ensures { Writes K.written K.failures result (spec.bar labels.now lanes.now stamped.now top bottom) sink.old sink.new }
 {
-    let x = lane(stamped.access().task());
-    let height = bottom.saturating_sub(top);
-    let deed = deed(stamped);
-    let size = size_words(stamped);
-    let site = site_words(stamped);
-    write_parts(
-        sink,
-        &[
-            &[
-                Piece::Text("<g class=\""),
-                Piece::Text(class(stamped)),
-                Piece::Text("\"><rect x=\""),
-                Piece::Decimal(x),
-                Piece::Text("em\" y=\""),
-                Piece::Decimal(top as u64),
-                Piece::Text("em\" width=\"1em\" height=\""),
-                Piece::Decimal(height as u64),
-                Piece::Text("em\"/><text x=\""),
-                Piece::Decimal(x),
-                Piece::Text(".3em\" dx=\"1em\" y=\""),
-                Piece::Decimal(top as u64),
-                Piece::Text(".8em\"><tspan>"),
-            ],
-            &deed[..],
-            &[Piece::Text(", ")],
-            &size[..],
-            &[Piece::Text(", ")],
-            &site[..],
-            &[Piece::Text("</tspan></text></g>\n")],
-        ],
-    )
+    let x = lanes.start(stamped.access().task());
+    let upper = row_top(top);
+    let lower = row_top(bottom);
+    write_bar_lines(sink, labels, stamped, x, upper, lower)?;
+    write_statement(sink, statement_of(labels, stamped), x, upper)?;
+    write_all(sink, b"</g>\n")
 }

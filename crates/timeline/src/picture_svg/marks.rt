@@ -1,35 +1,60 @@
-//! The rows of a picture, each one em high.
+//! The rows of a picture.
 
 ghost use Rattle.std.specs.Prelude.{◌≡◌};
 ghost use Rattle.std.specs.List.Sorted.{IsNonDecreasingBy};
 ghost use Rattle.report_text.specs.Sink.{Writes};
-ghost use Rattle.timeline.specs.picture_svg.Marks.{row_marks, rows_marks};
+ghost use Rattle.timeline.specs.picture_svg.Marks as spec;
 
-use crate::picture::{Mark, Row, rows_before};
+use crate::picture::labels::Label;
+use crate::picture::{Mark, Picture, Row, rows_before};
 use crate::picture_svg::bars::write_bar;
+use crate::picture_svg::lanes::Lanes;
+use crate::picture_svg::lines::row_top;
+use crate::picture_svg::notes::write_note;
 use crate::picture_svg::reports::{write_origin, write_race};
 use report_text::{Sink, WriteError};
 
-/// Writes what is drawn of the row at this place among the rows: nothing of an end.
-fn write_row<K: Sink>(sink: &mut K, rows: &[Row], place: usize, row: &Row) -> Result<(), WriteError>
-    requires { IsNonDecreasingBy (λ row. row.stamp) rows.now }
-    ensures { Writes K.written K.failures result (row_marks rows.now place row.now) sink.old sink.new }
+/// Writes what is drawn of the row at this place among the rows: an access where it begins, what became of its
+/// watchpoints where it ends, and a report.
+fn write_row<K: Sink>(
+    sink: &mut K,
+    picture: &Picture,
+    labels: &[Label<'_>],
+    lanes: &Lanes,
+    place: usize,
+    row: &Row,
+) -> Result<(), WriteError>
+    requires { IsNonDecreasingBy (λ row. row.stamp) picture.now.rows.items }
+    ensures { Writes K.written K.failures result (spec.row_marks picture.now labels.now lanes.now place row.now) sink.old sink.new }
 {
+    let top = row_top(place);
     match &row.mark {
-        Mark::Begin(stamped) => write_bar(sink, stamped, place, rows_before(rows, stamped.end())),
-        Mark::End(_) => Ok(()),
-        Mark::Race { setter, finder } => write_race(sink, setter, finder, place as u64),
-        Mark::Origin { setter, old, new } => write_origin(sink, setter, *old, *new, place as u64),
+        Mark::Begin(stamped) => {
+            let bottom = rows_before(&picture.rows, stamped.end());
+            write_bar(sink, labels, lanes, stamped, place, bottom)
+        }
+        Mark::End(stamped) => {
+            let x = lanes.start(stamped.access().task());
+            write_note(sink, &picture.watches, stamped, x, top)
+        }
+        Mark::Race { setter, finder } => write_race(sink, lanes, setter, finder, top),
+        Mark::Origin { setter, old, new } => write_origin(sink, lanes, setter, *old, *new, top),
     }
 }
 
 /// Writes what is drawn of the rows.
-pub(crate) fn write_rows<K: Sink>(sink: &mut K, rows: &[Row]) -> Result<(), WriteError>
-    requires { IsNonDecreasingBy (λ row. row.stamp) rows.now }
-    ensures { Writes K.written K.failures result (rows_marks rows.now 0 rows.now) sink.old sink.new }
+pub(crate) fn write_rows<K: Sink>(
+    sink: &mut K,
+    picture: &Picture,
+    labels: &[Label<'_>],
+    lanes: &Lanes,
+) -> Result<(), WriteError>
+    requires { IsNonDecreasingBy (λ row. row.stamp) picture.now.rows.items }
+    ensures { Writes K.written K.failures result (spec.rows_marks picture.now labels.now lanes.now 0 picture.now.rows.items)
+        sink.old sink.new }
 {
-    for (place, row) in rows.iter().enumerate() {
-        write_row(sink, rows, place, row)?;
+    for (place, row) in picture.rows.iter().enumerate() {
+        write_row(sink, picture, labels, lanes, place, row)?;
     }
     Ok(())
 }

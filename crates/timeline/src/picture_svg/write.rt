@@ -1,20 +1,22 @@
 //! A picture, as a file in SVG.
 
-ghost use Rattle.std.specs.Prelude.{◌≡◌};
+ghost use Rattle.std.specs.Prelude.{◌≡◌, ◌≤◌};
 ghost use Rattle.std.specs.List.{flat_map};
-ghost use Rattle.timeline.specs.picture.Ordered.{IsOrdered};
+ghost use Rattle.report_text.specs.Pieces.{text_of};
 ghost use Rattle.report_text.specs.Sink.{Writes};
+ghost use Rattle.timeline.specs.picture.Ordered.{IsOrdered};
 ghost use Rattle.timeline.specs.picture_svg.Svg as spec;
-ghost use Rattle.timeline.specs.picture_svg.Svg.{heading, picture_svg};
 
 use crate::picture::{Column, Picture};
-use crate::picture_svg::bars::lane;
+use crate::picture_svg::captions::{
+    Captions, settings_len, title_len, write_settings, write_title,
+};
+use crate::picture_svg::lanes::{Lanes, lanes_of};
 use crate::picture_svg::legend::write_legend;
+use crate::picture_svg::lines::row_top;
 use crate::picture_svg::marks::write_rows;
-use crate::picture_svg::title::{reports, tasks};
 use crate::picture_svg::watches::{write_takings, write_watches};
-use crate::picture_svg::widths::width;
-use report_text::pieces::{Piece, write_parts, write_pieces};
+use report_text::pieces::{Piece, write_pieces};
 use report_text::{Sink, WriteError, write_all};
 
 /// How everything looks, in light and in dark; the tip of an arrow; and the page behind all.
@@ -39,58 +41,82 @@ const LOOKS: &str = "<style>\
 <path class=\"tip\" d=\"M0 0L8 4L0 8z\"/></marker></defs>\n\
 <rect class=\"page\" width=\"100%\" height=\"100%\"/>\n";
 
-/// Writes what stands in front of the lanes.
-fn write_front<K: Sink>(sink: &mut K, picture: &Picture) -> Result<(), WriteError>
-    ensures { Writes K.written K.failures result (spec.front_text picture.now) sink.old sink.new }
+/// How wide a line of text is, behind its margin, whose signs are so many hundredths of an em wide.
+fn line_width(len: u64, sign: u64) -> u64
+    requires len { len ≤ 200 }
+    requires sign { sign ≤ 100 }
+    ensures { result ≡ spec.line_width len sign }
 {
-    let width = width(picture);
-    let height = (picture.rows.len() as u64).saturating_add(8);
-    let tasks = tasks(picture);
-    let reports = reports(picture);
-    write_parts(
-        sink,
-        &[
-            &[
-                Piece::Text("<svg xmlns=\"http://www.w3.org/2000/svg\" width=\""),
-                Piece::Decimal(width),
-                Piece::Text("em\" height=\""),
-                Piece::Decimal(height),
-                Piece::Text("em\" font-size=\"20\" font-family=\"monospace\">\n<title>"),
-            ],
-            &tasks[..],
-            &[Piece::Text(", ")],
-            &reports[..],
-            &[
-                Piece::Text("</title>\n"),
-                Piece::Text(LOOKS),
-                Piece::Text("<text x=\"1em\" y=\"1.5em\" font-weight=\"bold\">"),
-            ],
-            &tasks[..],
-            &[Piece::Text(", ")],
-            &reports[..],
-            &[Piece::Text("</text>\n")],
-        ],
-    )
+    2 + (sign * len + 99) / 100
+}
+
+/// How wide the picture is: as wide as its lanes, its title or its settings, and at least as its legend.
+fn width_of(picture: &Picture, captions: Captions<'_>, lanes: &Lanes) -> u64
+    ensures { result ≡ spec.width_of picture.now captions.entry.test.now captions.entry.settings.now lanes.now }
+{
+    let title = line_width(title_len(picture, captions.test), 60);
+    let settings = line_width(settings_len(picture, captions.settings), 36);
+    lanes.width().max(title).max(settings).max(24)
+}
+
+/// The beginning of the file, up to its title.
+fn opening(width: u64, height: u64) -> [Piece; 5]
+    ensures { text_of result ≡ spec.opening width height }
+{
+    [
+        Piece::Text("<svg xmlns=\"http://www.w3.org/2000/svg\" width=\""),
+        Piece::Decimal(width),
+        Piece::Text("em\" height=\""),
+        Piece::Decimal(height),
+        Piece::Text("em\" font-size=\"20\" font-family=\"monospace\">\n<title>"),
+    ]
+}
+
+/// Writes how everything looks.
+fn write_looks<K: Sink>(sink: &mut K) -> Result<(), WriteError>
+    ensures { Writes K.written K.failures result spec.looks sink.old sink.new }
+{
+    write_pieces(sink, &[Piece::Text(LOOKS)])
+}
+
+/// Writes what stands in front of the lanes.
+fn write_front<K: Sink>(
+    sink: &mut K,
+    picture: &Picture,
+    captions: Captions<'_>,
+    lanes: &Lanes,
+) -> Result<(), WriteError>
+    ensures { Writes K.written K.failures result
+        (spec.front picture.now captions.entry.test.now captions.entry.settings.now lanes.now) sink.old sink.new }
+{
+    let width = width_of(picture, captions, lanes);
+    let height = row_top(picture.rows.len()).saturating_add(10);
+    let opening = opening(width, height);
+    let above = [Piece::Text("<text x=\"1em\" y=\"1.5em\" font-weight=\"bold\">")];
+    write_title(sink, picture, captions.test, &opening[..], "</title>\n")?;
+    write_looks(sink)?;
+    write_title(sink, picture, captions.test, &above[..], "</text>\n")?;
+    write_settings(sink, picture, captions.settings)
 }
 
 /// Writes the lane of a task. A task without accesses has none.
-fn write_heading<K: Sink>(sink: &mut K, column: &Column) -> Result<(), WriteError>
-    ensures { Writes K.written K.failures result (heading column.now) sink.old sink.new }
+fn write_heading<K: Sink>(sink: &mut K, lanes: &Lanes, column: &Column) -> Result<(), WriteError>
+    ensures { Writes K.written K.failures result (spec.heading lanes.now column.now) sink.old sink.new }
 {
     if column.begins.is_empty() {
         return Ok(());
     }
-    let x = lane(column.task);
+    let x = lanes.start(column.task);
     write_pieces(
         sink,
         &[
             Piece::Text("<text x=\""),
             Piece::Decimal(x),
-            Piece::Text("em\" y=\"3.5em\">P"),
+            Piece::Text("em\" y=\"4.5em\">P"),
             Piece::Decimal(column.task as u64),
             Piece::Text("</text><line class=\"lane\" x1=\""),
             Piece::Decimal(x),
-            Piece::Text(".5em\" y1=\"4em\" x2=\""),
+            Piece::Text(".5em\" y1=\"5em\" x2=\""),
             Piece::Decimal(x),
             Piece::Text(".5em\" y2=\"100%\"/>\n"),
         ],
@@ -98,37 +124,70 @@ fn write_heading<K: Sink>(sink: &mut K, column: &Column) -> Result<(), WriteErro
 }
 
 /// Writes the lanes.
-fn write_headings<K: Sink>(sink: &mut K, columns: &[Column]) -> Result<(), WriteError>
-    ensures { Writes K.written K.failures result (flat_map heading columns.now) sink.old sink.new }
+fn write_headings<K: Sink>(
+    sink: &mut K,
+    lanes: &Lanes,
+    columns: &[Column],
+) -> Result<(), WriteError>
+    ensures { Writes K.written K.failures result (flat_map (spec.heading lanes.now) columns.now) sink.old sink.new }
 {
     for column in columns {
-        write_heading(sink, column)?;
+        write_heading(sink, lanes, column)?;
     }
     Ok(())
 }
 
 /// Writes what stands in front of the rows.
-fn write_head<K: Sink>(sink: &mut K, picture: &Picture) -> Result<(), WriteError>
-    ensures { Writes K.written K.failures result (spec.head_text picture.now) sink.old sink.new }
+fn write_head<K: Sink>(
+    sink: &mut K,
+    picture: &Picture,
+    captions: Captions<'_>,
+    lanes: &Lanes,
+) -> Result<(), WriteError>
+    ensures { Writes K.written K.failures result
+        (spec.head_text picture.now captions.entry.test.now captions.entry.settings.now lanes.now) sink.old sink.new }
 {
-    write_front(sink, picture)?;
-    write_headings(sink, &picture.columns)?;
-    write_all(sink, b"<svg y=\"5em\" overflow=\"visible\">\n")
+    write_front(sink, picture, captions, lanes)?;
+    write_headings(sink, lanes, &picture.columns)?;
+    write_all(sink, b"<svg y=\"6em\" overflow=\"visible\">\n")
 }
 
-/// Writes the picture as one file in SVG, without scripts and fonts from outside. Its title says how many tasks and
-/// reports there are. Time goes downwards, a row one em high; a task has a lane, an access a bar, its watchpoints thin
-/// bars in it, a taking an arrow, and a race is red, with the title of its report; a legend stands below. All that is
-/// written is fixed words and numbers, so nothing has to be escaped.
+/// Writes the picture as one file in SVG, without scripts and fonts from outside, with what a reader knows of the trace
+/// beyond it. Its title says the test and how many tasks, reports and discards there are; below it stand the settings.
+/// Time goes downwards, a row two em high; a task has a lane, as wide as its texts, an access a bar, its watchpoints
+/// thin bars in it, and what became of them where it ends; a taking is an arrow, and a race red, with the title of its
+/// report; a legend stands below. Texts from elsewhere are escaped.
+///
+/// `SinkFailed`: the sink failed in this call, and holds a beginning of the text.
+pub fn write_captioned_svg<K: Sink>(
+    picture: &Picture,
+    captions: Captions<'_>,
+    sink: &mut K,
+) -> Result<(), WriteError>
+    requires { IsOrdered picture.now }
+    ensures { Writes K.written K.failures result
+        (spec.captioned_svg picture.now captions.entry.test.now captions.entry.settings.now captions.entry.labels.now)
+        sink.old sink.new }
+{
+    let lanes = lanes_of(picture, captions.labels);
+    write_head(sink, picture, captions, &lanes)?;
+    write_rows(sink, picture, captions.labels, &lanes)?;
+    write_watches(sink, &lanes, &picture.rows, &picture.watches)?;
+    write_takings(sink, &lanes, &picture.rows, &picture.takings)?;
+    write_legend(sink)
+}
+
+/// Writes the picture of a trace of which nothing more is known.
 ///
 /// `SinkFailed`: the sink failed in this call, and holds a beginning of the text.
 pub fn write_svg<K: Sink>(picture: &Picture, sink: &mut K) -> Result<(), WriteError>
     requires { IsOrdered picture.now }
-    ensures { Writes K.written K.failures result (picture_svg picture.now) sink.old sink.new }
+    ensures { Writes K.written K.failures result (spec.picture_svg picture.now) sink.old sink.new }
 {
-    write_head(sink, picture)?;
-    write_rows(sink, &picture.rows)?;
-    write_watches(sink, &picture.rows, &picture.watches)?;
-    write_takings(sink, &picture.rows, &picture.takings)?;
-    write_legend(sink)
+    let nothing = Captions {
+        test: &[],
+        settings: &[],
+        labels: &[],
+    };
+    write_captioned_svg(picture, nothing, sink)
 }

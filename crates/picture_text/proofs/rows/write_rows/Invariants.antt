@@ -7,4 +7,4 @@ use Rattle.picture_text.proofs.rows.write_rows.Given as goal
 
 abbrev pub invariant-loop-row : goal.invariant-loop-row
 invariant-loop-row g l =
-    Takes g.K.Sink.written g.K.Sink.failures (flat_map (row_text l.style l.columns) (take l.row-index l.rows)) l.fn.sink l.sink
+    Takes g.K.Sink.written g.K.Sink.failures (flat_map (row_text l.style l.columns l.labels) (take l.row-index l.rows)) l.fn.sink l.sink

@@ -7,4 +7,4 @@ use Rattle.picture_text.proofs.watches.write_takings.Given as goal
 
 abbrev pub invariant-loop-taking : goal.invariant-loop-taking
 invariant-loop-taking g l =
-    Takes g.K.Sink.written g.K.Sink.failures (flat_map (taking_text) (take l.taking-index l.takings)) l.fn.sink l.sink
+    Takes g.K.Sink.written g.K.Sink.failures (flat_map (taking_text l.slots) (take l.taking-index l.takings)) l.fn.sink l.sink

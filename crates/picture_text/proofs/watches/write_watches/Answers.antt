@@ -11,12 +11,12 @@ use Rattle.picture_text.proofs.watches.write_watches.Goals as goal
 pub loop-watch-preserved : goal.loop-watch-preserved
 loop-watch-preserved g c =
     let so_far = take c.loop-watch.watch-index c.args.watches.now in
-    next_too (λ (items : List Watch). Takes g.K.Sink.written g.K.Sink.failures (flat_map watch_text items) c.args.sink.now c.write_watch.new.sink)
+    next_too (λ (items : List Watch). Takes g.K.Sink.written g.K.Sink.failures (flat_map (watch_text c.args.slots) items) c.args.sink.now c.write_watch.new.sink)
     c.args.watches.now c.loop-watch.watch-index _ (omega arith) c.watch-item.is
-    (takes_more g.K.Sink.written g.K.Sink.failures watch_text so_far _ _ _ _ c.loop-watch.invariant c.in_ok-write_watch.ensures)
+    (takes_more g.K.Sink.written g.K.Sink.failures (watch_text c.args.slots) so_far _ _ _ _ c.loop-watch.invariant c.in_ok-write_watch.ensures)
 
 pub returns-in_err-write_watch : goal.returns-in_err-write_watch
 returns-in_err-write_watch g c =
     writes_error g.K.Sink.written g.K.Sink.failures _ _ _ _ c.from_residual.ensures.0
-    (fails_item g.K.Sink.written g.K.Sink.failures (watch_text) c.args.watches.now c.loop-watch.watch-index _ _ _ _
+    (fails_item g.K.Sink.written g.K.Sink.failures (watch_text c.args.slots) c.args.watches.now c.loop-watch.watch-index _ _ _ _
     (omega arith) c.watch-item.is c.loop-watch.invariant c.in_err-write_watch.ensures)

@@ -7,4 +7,4 @@ use Rattle.picture_text.proofs.watches.write_watches.Given as goal
 
 abbrev pub invariant-loop-watch : goal.invariant-loop-watch
 invariant-loop-watch g l =
-    Takes g.K.Sink.written g.K.Sink.failures (flat_map (watch_text) (take l.watch-index l.watches)) l.fn.sink l.sink
+    Takes g.K.Sink.written g.K.Sink.failures (flat_map (watch_text l.slots) (take l.watch-index l.watches)) l.fn.sink l.sink

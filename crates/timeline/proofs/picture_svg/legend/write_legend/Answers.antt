@@ -1,9 +1,13 @@
 -- the piece spells the legend
-use Rattle.std.proofs.Common.{◌∙◌, append-nil}
+use Rattle.std.proofs.Common.{◌≡◌, ◌∙◌, append-nil, refl}
 use Rattle.report_text.proofs.SinkSteps.{writes_same}
-use Rattle.timeline.proofs.picture_svg.Spelled.{legend_is}
+use Rattle.timeline.specs.picture_svg.Legend.{legend}
+use Rattle.timeline.specs.declared.picture_svg.legend.TheConstants.{SIGNS}
 use Rattle.timeline.proofs.picture_svg.legend.write_legend.Goals as goal
 
+signs_are : SIGNS.now ≡ legend
+unfolding legend
+signs_are = refl
+
 pub returns : goal.returns
-returns g c = writes_same g.K.Sink.written g.K.Sink.failures _ _ _ _ _
-    (append-nil _ ∙ legend_is) c.write_pieces.ensures
+returns g c = writes_same g.K.Sink.written g.K.Sink.failures _ _ _ _ _ (append-nil _ ∙ signs_are) c.write_pieces.ensures

@@ -7,4 +7,4 @@ use Rattle.timeline.proofs.picture_svg.watches.write_takings.Given as goal
 
 abbrev pub invariant-loop-taking : goal.invariant-loop-taking
 invariant-loop-taking g l =
-    Takes g.K.Sink.written g.K.Sink.failures (flat_map (taking_text l.rows) (take l.taking-index l.takings)) l.fn.sink l.sink
+    Takes g.K.Sink.written g.K.Sink.failures (flat_map (taking_text l.lanes l.rows) (take l.taking-index l.takings)) l.fn.sink l.sink

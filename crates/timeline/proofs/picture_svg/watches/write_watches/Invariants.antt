@@ -7,4 +7,4 @@ use Rattle.timeline.proofs.picture_svg.watches.write_watches.Given as goal
 
 abbrev pub invariant-loop-watch : goal.invariant-loop-watch
 invariant-loop-watch g l =
-    Takes g.K.Sink.written g.K.Sink.failures (flat_map (watch_text l.rows) (take l.watch-index l.watches)) l.fn.sink l.sink
+    Takes g.K.Sink.written g.K.Sink.failures (flat_map (watch_text l.lanes l.rows) (take l.watch-index l.watches)) l.fn.sink l.sink

@@ -16,4 +16,5 @@ returns-in_err-write_headings g c =
 pub returns : goal.returns
 returns g c =
     writes_after g.K.Sink.written g.K.Sink.failures _ _ _ _ _ _ c.in_ok-write_front.ensures
-    (writes_after g.K.Sink.written g.K.Sink.failures _ _ _ _ _ _ (rw c.deref.ensures.value at c.in_ok-write_headings.ensures) c.write_all.ensures)
+    (writes_after g.K.Sink.written g.K.Sink.failures _ _ _ _ _ _ (rw c.deref.ensures.value at c.in_ok-write_headings.ensures)
+    c.write_all.ensures)

@@ -7,4 +7,4 @@ use Rattle.timeline.proofs.picture_svg.write.write_headings.Given as goal
 
 abbrev pub invariant-loop-column : goal.invariant-loop-column
 invariant-loop-column g l =
-    Takes g.K.Sink.written g.K.Sink.failures (flat_map (heading) (take l.column-index l.columns)) l.fn.sink l.sink
+    Takes g.K.Sink.written g.K.Sink.failures (flat_map (heading l.lanes) (take l.column-index l.columns)) l.fn.sink l.sink

@@ -1,8 +1,0 @@
--- the pieces spell the line
-use Rattle.std.proofs.Common.{append_assoc, append-nil}
-use Rattle.report_text.proofs.SinkSteps.{writes_same}
-use Rattle.picture_text.proofs.rows.write_size.Goals as goal
-
-pub returns : goal.returns
-returns g c = writes_same g.K.Sink.written g.K.Sink.failures _ _ _ _ _
-    (simp (c.size_words-size.ensures, append_assoc, append-nil)) c.write_line.ensures
