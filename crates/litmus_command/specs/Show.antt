@@ -4,7 +4,7 @@ use Rattle.picture_text.specs.Text.{picture_text}
 use Rattle.picture_text.specs.declared.cells.Style.{Style}
 use Rattle.timeline.specs.picture.Drawn.{IsPictureOf}
 use Rattle.timeline.specs.declared.picture.draw.Picture.{Picture}
-use Rattle.timeline.specs.picture_svg.Svg.{picture_svg}
+use Rattle.picture_svg.specs.Svg.{picture_svg}
 
 -- the picture as SVG, where that is wanted
 abbrev pub svg_if : Bool → Picture → Option (List ℕ)

@@ -6,14 +6,14 @@ ghost use Rattle.litmus_command.specs.Show.{IsDrawn};
 ghost use Rattle.picture_text.specs.Text.{picture_text};
 ghost use Rattle.timeline.specs.picture.Drawn.{IsUndrawn};
 ghost use Rattle.timeline.specs.picture.Ordered.{IsOrdered};
-ghost use Rattle.timeline.specs.picture_svg.Svg.{picture_svg};
+ghost use Rattle.picture_svg.specs.Svg.{picture_svg};
 
+use picture_svg::write_svg;
 use picture_text::{Style, write_picture};
 use report_text::MemorySink;
 use run_output::Written;
 use std::alloc::{AllocError, Global};
 use timeline::picture::{Picture, PictureError, picture_of};
-use timeline::picture_svg::write_svg;
 
 /// The picture as text.
 fn text_of(alloc: Global, picture: &Picture, style: Style) -> Result<Vec<u8>, AllocError>

@@ -12,7 +12,7 @@ use itoa::Buffer;
 use report_text::pieces::Piece;
 
 /// A text counts as at most so long.
-pub(crate) const LONGEST: u64 = 200;
+pub const LONGEST: u64 = 200;
 
 /// How many hexadecimal digits the number has.
 fn hex_digits(number: u64) -> u64
@@ -47,7 +47,7 @@ fn piece_len(piece: Piece) -> u64
 }
 
 /// How many bytes the pieces spell.
-pub(crate) fn pieces_len(pieces: &[Piece]) -> u64
+pub fn pieces_len(pieces: &[Piece]) -> u64
     ensures { result ≡ len_of (text_of pieces.now) }
 {
     let mut len = 0;
@@ -58,7 +58,7 @@ pub(crate) fn pieces_len(pieces: &[Piece]) -> u64
 }
 
 /// How many bytes the parts spell.
-pub(crate) fn parts_len(parts: &[&[Piece]]) -> u64
+pub fn parts_len(parts: &[&[Piece]]) -> u64
     ensures { result ≡ len_of (text_of_parts parts.now) }
 {
     let mut len = 0;
@@ -69,14 +69,14 @@ pub(crate) fn parts_len(parts: &[&[Piece]]) -> u64
 }
 
 /// How many bytes a text has.
-pub(crate) fn text_len(text: &[u8]) -> u64
+pub fn text_len(text: &[u8]) -> u64
     ensures { result ≡ len_of text.now }
 {
     (text.len() as u64).min(LONGEST)
 }
 
 /// How many bytes of a text are shown where there is room for 62.
-pub(crate) fn short_len(text: &[u8]) -> u64
+pub fn short_len(text: &[u8]) -> u64
     ensures { result ≡ len_of (shortened text.now) }
 {
     text.len().min(ROOM) as u64

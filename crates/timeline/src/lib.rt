@@ -1,7 +1,6 @@
-//! The timeline of a trace, and as a file in SVG.
+//! The timeline of a trace.
 #![tactic(auto)]
 
-mod lengths;
+pub mod lengths;
 pub mod picture;
-pub mod picture_svg;
 pub mod texts;

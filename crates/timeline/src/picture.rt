@@ -11,8 +11,7 @@ pub mod told;
 mod watches;
 pub mod words;
 
-pub use columns::Column;
-pub(crate) use columns::TASKS;
+pub use columns::{Column, TASKS};
 pub use draw::{ACCESS_LIMIT, Picture, picture_of};
 pub use error::PictureError;
 pub use rows::{Mark, Row, rows_before};

@@ -9,7 +9,7 @@ use access_types::Stamped;
 use std::alloc::{AllocError, Global};
 
 /// The tasks that there can be.
-pub(crate) const TASKS: [u32; 16] = [0, 1, 2, 3, 4, 5, 6, 7, 8, 9, 10, 11, 12, 13, 14, 15];
+pub const TASKS: [u32; 16] = [0, 1, 2, 3, 4, 5, 6, 7, 8, 9, 10, 11, 12, 13, 14, 15];
 
 /// The column of a task: the stamps at which its accesses begin, and those at which they end, in rising order.
 #[derive(Drop)]

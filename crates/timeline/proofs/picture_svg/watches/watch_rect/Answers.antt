@@ -1,5 +1,0 @@
--- as long as from one to the other
-use Rattle.timeline.proofs.picture_svg.watches.watch_rect.Goals as goal
-
-pub returns : goal.returns
-returns c = rw c.saturating_sub.ensures
