@@ -40,8 +40,8 @@ _kcsan_litmus() {
       options="--switches --limit --seconds --jobs --format --settings --where --trace -o $settings"
       formats="text json csv herd"
       ;;
-    races) options="--limit --seconds --jobs --format $settings" ;;
-    show) options="--svg -o --ascii" ;;
+    races) options="--limit --seconds --jobs --format --html $settings" ;;
+    show) options="--source --slots --svg -o --ascii" ;;
     check) options="--print --calls --schedule -s --place --slots --word" ;;
   esac
 
@@ -49,13 +49,15 @@ _kcsan_litmus() {
   [[ $cur != = ]] || cur=
   [[ $before != = ]] || before=${COMP_WORDS[COMP_CWORD - 2]}
   [[ $cur != @ ]] || { before=@ cur= ; }
+  [[ $command != show || $before != --slots ]] || before=
   case $before in
+    --source) _kcsan_litmus_files '*.litmus' ;;
     --format) _kcsan_litmus_words "$formats" ;;
     --word) _kcsan_litmus_words "64 32" ;;
     --switches) _kcsan_litmus_words all ;;
     --value-change-only | --plain-writes-atomic | --unknown-origin) _kcsan_litmus_words "yes no" ;;
     --kconfig) _kcsan_litmus_files '*.config' '*config-*' ;;
-    --trace | --svg | -o) _kcsan_litmus_files '*' ;;
+    --trace | --svg | --html | -o) _kcsan_litmus_files '*' ;;
     @) _kcsan_litmus_list ;;
     --schedule | -s | --place | --slots | --skip | --seed | --turns) ;;
     --runs | -r | --delay | --jobs | --limit | --seconds) ;;

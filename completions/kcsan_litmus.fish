@@ -37,6 +37,7 @@ complete -c kcsan_litmus -n "$seen search races" -l seconds -x -d 'Stop after so
 complete -c kcsan_litmus -n "$seen search" -l format -xa 'text json csv herd' -d 'Format of the output'
 complete -c kcsan_litmus -n "$seen search" -l settings -d 'End with a line of the settings'
 complete -c kcsan_litmus -n "$seen races" -l format -xa 'text json' -d 'Format of the output'
+complete -c kcsan_litmus -n "$seen races" -l html -rF -d 'Write a page of HTML to this file'
 
 complete -c kcsan_litmus -n "$litmus" -l place -x -d 'Addresses, as x=0x1000,c=0x10001'
 complete -c kcsan_litmus -n "$litmus" -l slots -x -d 'Number of page slots'
@@ -51,6 +52,8 @@ complete -c kcsan_litmus -n "$executing" -l unknown-origin -xa 'yes no' -d 'Prin
 complete -c kcsan_litmus -n "$executing" -l kconfig -xka '(__fish_complete_suffix .config)' -d 'Settings of a kernel'
 complete -c kcsan_litmus -n "$executing" -l turns -x -d 'Failed tries of a wait until a task is stuck'
 
+complete -c kcsan_litmus -n "$seen show" -l source -rF -d 'Litmus file that the trace is of'
+complete -c kcsan_litmus -n "$seen show" -l slots -d 'Tell the index of each watchpoint'
 complete -c kcsan_litmus -n "$seen show" -s o -l svg -rF -d 'Write the picture to this file, as SVG'
 complete -c kcsan_litmus -n "$seen show" -l ascii -d 'Draw with ASCII alone'
 

@@ -136,13 +136,14 @@ search_app names =
     (free_number_rule (codes "seconds") 1 1000000))
     (number_rule (codes "jobs") 1 64 (codes "1"))) names
 
--- `races`, with its files, how races are printed, after how many states or schedules and after how many seconds a
--- search stops, how many threads share the files, and those settings
+-- `races`, with its files, how races are printed, the file that a page goes to, after how many states or schedules and
+-- after how many seconds a search stops, how many threads share the files, and those settings
 unfoldable pub races_app : Names → App
 races_app names =
-    with_settings (with_rule (with_rule (with_rule (with_rule (with_rule (new_app (codes "races"))
+    with_settings (with_rule (with_rule (with_rule (with_rule (with_rule (with_rule (new_app (codes "races"))
     (some_words_rule (codes "FILE")))
     (name_rule (codes "format") names.formats (codes "text")))
+    (text_rule (codes "html")))
     (number_rule (codes "limit") 1 1000000000 (codes "1000000")))
     (free_number_rule (codes "seconds") 1 1000000))
     (number_rule (codes "jobs") 1 64 (codes "1"))) names
@@ -151,10 +152,13 @@ races_app names =
 unfoldable pub replay_app : App
 replay_app = with_rule (new_app (codes "replay")) (word_rule (codes "TRACE"))
 
--- `show`, with its file, the file that a picture goes to, and whether the text is drawn with ASCII alone
+-- `show`, with its file, the file that the trace is of, whether indices are told, the file that a picture goes to, and
+-- whether the text is drawn with ASCII alone
 unfoldable pub show_app : App
-show_app = with_rule (with_rule (with_rule (new_app (codes "show"))
+show_app = with_rule (with_rule (with_rule (with_rule (with_rule (new_app (codes "show"))
     (word_rule (codes "TRACE")))
+    (text_rule (codes "source")))
+    (flag_rule (codes "slots")))
     (short_rule 111 (text_rule (codes "svg"))))
     (flag_rule (codes "ascii"))
 
@@ -351,6 +355,7 @@ pub record AskRaces (values : List Row) (request : RacesRequest) : Type 0 where
   pub seconds : IsNumberIfGiven values (codes "seconds") request.seconds
   pub jobs : IsNumber values (codes "jobs") request.jobs
   pub format : IsFormat values (codes "format") request.format
+  pub html : first_of (codes "html") values ≡ option_map (λ path. path.now) request.html
   pub settings : AskSettings values request.options
   pub untraced : request.options.trace ≡ None
 
@@ -361,8 +366,10 @@ AskReplay values request = first_of (codes "TRACE") values ≡ Some request.trac
 -- the values of `show` ask for this
 pub record AskShow (values : List Row) (request : ShowRequest) : Type 0 where
   pub trace : first_of (codes "TRACE") values ≡ Some request.trace.now
+  pub source : first_of (codes "source") values ≡ option_map (λ path. path.now) request.source
   pub svg : first_of (codes "svg") values ≡ option_map (λ path. path.now) request.svg
   pub ascii : IsFlag values (codes "ascii") request.ascii
+  pub slots : IsFlag values (codes "slots") request.slots
 
 -- the values of `check` ask for this
 pub record AskCheck (values : List Row) (request : CheckRequest) : Type 0 where

@@ -227,6 +227,13 @@ pub const AFTER_RACES: &str = "\
     pairs under its name, and the last line counts the files. Files that are\n\
     refused or can't be read are skipped, and standard error says so of each.\n\
     \n\
+    \x20\x20\x20\x20kcsan_litmus races --html races.html first.litmus second.litmus\n\
+    \n\
+    also writes a page for a browser: a table of the files, and of each its text,\n\
+    in which its sites are marked, its pairs, and of each pair that races a picture\n\
+    of an execution that shows it. One thread then looks for the races of all\n\
+    files. The path of the page may not be that of a file that is read.\n\
+    \n\
     'kcsan_litmus step --help' says what a schedule and a place list are.\n\
     \n\
     Exit status: 0 no race in any file; 2 a race, reported or missed; 64 usage, or\n\
@@ -235,7 +242,8 @@ pub const AFTER_RACES: &str = "\
     was found, and the search was stopped at --limit or --seconds. Of several files\n\
     the greatest status counts. From 64 to 74 standard error says why, and up to 71\n\
     nothing goes to standard output, but that with several files the pairs of those\n\
-    that are read do where others are refused or can't be read.";
+    that are read do where others are refused or can't be read. The page is written\n\
+    then too.";
 
 /// What it says behind those of `show`.
 pub const AFTER_SHOW: &str = "\
@@ -253,10 +261,15 @@ pub const AFTER_SHOW: &str = "\
     Lines are drawn with | + - = alone unless LC_ALL, or else LC_CTYPE, or else\n\
     LANG, names UTF-8.\n\
     \n\
+    A file of --source whose program can't have made the accesses of the trace is\n\
+    refused: one where a site is missing, has another kind of access or another\n\
+    size, or two sites with the same variable have different addresses.\n\
+    \n\
     Exit status: 0 the trace is drawn; 64 usage; 65 it is refused, or has more than\n\
-    10000 accesses (limit: picture); 66 it can't be read; 71 out of memory; 74\n\
-    output can't be written. From 64 on standard error says why, and up to 71\n\
-    nothing goes to standard output or to the picture's file.";
+    10000 accesses (limit: picture), or the file of --source is refused; 66 one of\n\
+    them can't be read; 71 out of memory; 74 output can't be written. From 64 on\n\
+    standard error says why, and up to 71 nothing goes to standard output or to the\n\
+    picture's file.";
 
 /// What it says behind those of `check`.
 pub const AFTER_CHECK: &str = "\
@@ -544,10 +557,32 @@ pub const FORMAT: Help = Help {
     full: "How the races are printed: as text, or for programs as json",
 };
 
+/// What `--html` of `races` does.
+pub const HTML: Help = Help {
+    brief: "Writes a page with texts and pictures too",
+    full: "\
+        Writes a page to this file too, with the text of each file and\n\
+        pictures of its races",
+};
+
 /// What `--svg` does.
 pub const SVG: Help = Help {
     brief: "Writes the picture to this file too, as SVG",
     full: "Writes the picture to this file too, as SVG",
+};
+
+/// What `--source` takes.
+pub const SOURCE: Help = Help {
+    brief: "Names variables and statements by this litmus file",
+    full: "\
+        The litmus file that the trace is of: each access has the name of its\n\
+        variable in place of an address, and its statement below",
+};
+
+/// What `--slots` of `show` does.
+pub const INDICES: Help = Help {
+    brief: "Tells the index of each watchpoint",
+    full: "Tells the index of each watchpoint",
 };
 
 /// What `--ascii` does.

@@ -101,7 +101,7 @@ static SEARCH_ENTRIES: [Entry; 9] = [
 ];
 
 /// The files and the options of `races` alone.
-static RACES_ENTRIES: [Entry; 7] = [
+static RACES_ENTRIES: [Entry; 8] = [
     Entry::Words("FILE", Words::Several, help::FILES),
     Entry::Heading(OUTPUT),
     Entry::Value(
@@ -111,6 +111,7 @@ static RACES_ENTRIES: [Entry; 7] = [
         Some("text"),
         help::FORMAT,
     ),
+    Entry::Value("html", None, Text("PATH"), None, help::HTML),
     Entry::Heading(SEARCH),
     Entry::Value(
         "limit",
@@ -127,9 +128,11 @@ static RACES_ENTRIES: [Entry; 7] = [
 static REPLAY_ENTRIES: [Entry; 1] = [Entry::Words("TRACE", Words::One, help::REPLAYED)];
 
 /// The file and the options of `show`.
-static SHOW_ENTRIES: [Entry; 4] = [
+static SHOW_ENTRIES: [Entry; 6] = [
     Entry::Words("TRACE", Words::One, help::REPLAYED),
     Entry::Heading(OUTPUT),
+    Entry::Value("source", None, Text("FILE"), None, help::SOURCE),
+    Entry::Flag("slots", help::INDICES),
     Entry::Value("svg", Some('o'), Text("PATH"), None, help::SVG),
     Entry::Flag("ascii", help::ASCII),
 ];

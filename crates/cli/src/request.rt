@@ -49,10 +49,14 @@ pub struct ReplayRequest<'a> {
 pub struct ShowRequest<'a> {
     /// The name of the file that has the trace.
     pub trace: &'a str,
+    /// The name of the litmus file that the trace is of, if it is named.
+    pub source: Option<&'a str>,
     /// The name of the file that a picture goes to as well, if it goes to one.
     pub svg: Option<&'a str>,
     /// Whether the text is drawn with ASCII alone.
     pub ascii: bool,
+    /// Whether the index of each watchpoint is told.
+    pub slots: bool,
 }
 
 /// What `step` is asked to do.
@@ -170,6 +174,8 @@ pub struct RacesRequest<'a> {
     pub jobs: u64,
     /// How races are printed.
     pub format: RacesFormat,
+    /// The name of the file that a page goes to, if it goes to one.
+    pub html: Option<&'a str>,
     /// What `step` could be given as well, without a trace.
     pub options: RunOptions<'a>,
 }
@@ -424,6 +430,7 @@ fn races_request<'a>(files: Vec<&'a str>, races: &ArgMatches<'a>) -> Option<Requ
         seconds: number_if_given(races, "seconds", SECONDS)?,
         jobs: number(races, "jobs", JOBS)?,
         format: format_asked(races)?,
+        html: races.get_str("html"),
         options: settings(races, None)?,
     }))
 }
@@ -596,8 +603,10 @@ fn show_request<'a>(show: &ArgMatches<'a>) -> Option<Request<'a>>
 {
     Some(Request::Show(ShowRequest {
         trace: show.get_str("TRACE")?,
+        source: show.get_str("source"),
         svg: show.get_str("svg"),
         ascii: show.get_flag("ascii"),
+        slots: show.get_flag("slots"),
     }))
 }
 

@@ -151,7 +151,7 @@ pub record SearchedSoFar (asked : Asked) (settings : Settings) (count : ℕ) (ou
   pub counts_are : counts ≡ counts_of founds
   pub status_is : status ≡ status_of_all asked.work founds
 
-pub none_searched : (asked : Asked) (settings : Settings) (output : List ℕ) (before : DeskState) → output ≡ heading_of asked.work
+unfoldable pub none_searched : (asked : Asked) (settings : Settings) (output : List ℕ) (before : DeskState) → output ≡ heading_of asked.work
     → SearchedSoFar asked settings 0 output no_counts 0 before before
 none_searched asked settings output before empty = record {
   founds = [];
@@ -165,24 +165,24 @@ none_searched asked settings output before empty = record {
 }
 
 -- one file more is looked into
-more_looked_into : (files : Files) (founds : List FileFound) (found : FileFound) (before middle after : DeskState)
+pub more_looked_into : (files : Files) (founds : List FileFound) (found : FileFound) (before middle after : DeskState)
     → AreLookedInto files founds before middle → IsLookedInto files found middle after → AreLookedInto files (founds ++ found ∷ []) before after
 more_looked_into files [] found before middle after none one =
     (after, subst (λ (at : DeskState). IsLookedInto files found at after) none one, refl)
 more_looked_into files (first ∷ more) found before middle after all one =
     (all.0, all.1, more_looked_into files more found all.0 middle after all.2 one)
 
-counts_more : (founds : List FileFound) (found : FileFound) → counts_of (founds ++ found ∷ []) ≡ counted (counts_of founds) (verdict_in found)
+pub counts_more : (founds : List FileFound) (found : FileFound) → counts_of (founds ++ found ∷ []) ≡ counted (counts_of founds) (verdict_in found)
 counts_more founds found =
     ap (fold counted no_counts) (map-append verdict_in founds (found ∷ []))
     ∙ fold-append counted no_counts (map verdict_in founds) (verdict_in found ∷ [])
 
-status_more : (work : Work) (founds : List FileFound) (found : FileFound)
+pub status_more : (work : Work) (founds : List FileFound) (found : FileFound)
     → status_of_all work (founds ++ found ∷ []) ≡ worse work (status_of_all work founds) (file_status_of found)
 status_more work founds found =
     ap (fold (worse work) 0) (map-append file_status_of founds (found ∷ [])) ∙ fold-append (worse work) 0 (map file_status_of founds) (file_status_of found ∷ [])
 
-pub one_searched : (asked : Asked) (settings : Settings) (count : ℕ) (output : List ℕ) (counts : FileCounts) (status : ℕ)
+unfoldable pub one_searched : (asked : Asked) (settings : Settings) (count : ℕ) (output : List ℕ) (counts : FileCounts) (status : ℕ)
     (before middle after : DeskState) (name : List ℕ) (said : FileSaid) (more : List ℕ) (others : FileCounts) (greatest : ℕ)
     → SearchedSoFar asked settings count output counts status before middle
     → take (count + 1) (map (λ file. file.now) asked.files) ≡ take count (map (λ file. file.now) asked.files) ++ name ∷ []

@@ -1,4 +1,4 @@
-mod CheckLemmas
-mod FilesLemmas
+pub mod CheckLemmas
+pub mod FilesLemmas
 mod ListLemmas
 mod TogetherLemmas

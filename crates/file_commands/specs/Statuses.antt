@@ -59,6 +59,7 @@ status_of failure.OutOfMemory = 71
 status_of (failure.Engine error) = engine_status_of error
 status_of (failure.Trace error) = trace_status_of error
 status_of (failure.Picture error) = picture_status_of error
+status_of failure.OtherSource = 65
 
 -- the status that a complaint comes with
 abbrev pub complaint_status_of : Complaint → ℕ

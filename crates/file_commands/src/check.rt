@@ -32,7 +32,7 @@ use std::alloc::{AllocError, Global};
 
 /// What came of a file.
 #[derive(Clone, Copy)]
-pub(crate) enum FileEnd {
+pub enum FileEnd {
     /// It is read, and was warned of where there is something to warn of.
     Read,
     /// That it isn't was told, and comes with this status.
@@ -41,9 +41,9 @@ pub(crate) enum FileEnd {
 
 /// What came of all files: what is printed, and the status.
 #[derive(Drop)]
-pub(crate) struct Checked {
-    pub(crate) output: Vec<u8>,
-    pub(crate) status: u8,
+pub struct Checked {
+    pub output: Vec<u8>,
+    pub status: u8,
 }
 
 /// The options of `step`, as they are where `check` hasn't them.
@@ -116,7 +116,7 @@ fn warn<D: Desk>(warnings: Vec<u8>, desk: &mut D)
 }
 
 /// What came of a file that gave a text: its warnings are told, or, where it isn't read, that is.
-pub(crate) fn tell_file<D: Desk>(comes: Comes, desk: &mut D) -> FileEnd
+pub fn tell_file<D: Desk>(comes: Comes, desk: &mut D) -> FileEnd
     ensures ends { (files : Files) (settings : Settings) (name text : List ℕ) (check : Check) → IsMadeOf files name check comes
         → IsCheckOf name text settings check → IsEndOf (Gave name text check) result }
     ensures told { (files : Files) (name text : List ℕ) (check : Check) → IsMadeOf files name check comes
@@ -232,7 +232,7 @@ fn check_files<D: Desk>(
 }
 
 /// Prints what is printed of the files, and answers the status that the program ends with.
-pub(crate) fn print_checked<D: Desk>(checked: &Checked, desk: &mut D) -> u8
+pub fn print_checked<D: Desk>(checked: &Checked, desk: &mut D) -> u8
     ensures { IsPrinted checked.now.output.items checked.now.status result (D.state desk.old) (D.state desk.new) }
 {
     // Of one file that isn't read there is nothing to print, and no failure to be had of that.

@@ -60,6 +60,9 @@ pub enum Failure {
     Trace(TraceError),
     #[error("{0}")]
     Picture(PictureError),
+    /// The program of the source can't have made the accesses of the trace.
+    #[error("source does not fit the trace")]
+    OtherSource,
 }
 
 impl From<AllocError> for Failure {
@@ -118,6 +121,7 @@ impl Failure {
             Failure::Engine(error) => engine_status(error),
             Failure::Trace(error) => trace_status(error),
             Failure::Picture(error) => picture_status(error),
+            Failure::OtherSource => REFUSED,
         }
     }
 }

@@ -40,7 +40,7 @@ use std::alloc::{AllocError, Global};
 use std::thread::Threads;
 
 /// No file was counted.
-pub(crate) const NO_COUNTS: FileCounts = FileCounts {
+pub const NO_COUNTS: FileCounts = FileCounts {
     free: 0,
     reported: 0,
     missed: 0,
@@ -50,27 +50,27 @@ pub(crate) const NO_COUNTS: FileCounts = FileCounts {
 
 /// The files that are asked for, and what is done with each.
 #[derive(Clone, Copy)]
-pub(crate) struct FilesAsked<'a> {
-    pub(crate) files: &'a [&'a str],
-    pub(crate) options: RunOptions<'a>,
-    pub(crate) work: Work,
+pub struct FilesAsked<'a> {
+    pub files: &'a [&'a str],
+    pub options: RunOptions<'a>,
+    pub work: Work,
     /// How many threads may share several files.
-    pub(crate) jobs: u64,
+    pub jobs: u64,
 }
 
 /// What is said of a file.
 #[derive(Drop)]
-pub(crate) struct FileSaid {
+pub struct FileSaid {
     /// What is printed of it.
-    pub(crate) text: Vec<u8>,
+    pub text: Vec<u8>,
     /// The verdict, if there is one.
-    pub(crate) verdict: Option<FileVerdict>,
+    pub verdict: Option<FileVerdict>,
     /// The status that it would have alone.
-    pub(crate) status: u8,
+    pub status: u8,
 }
 
 /// What `check` would be asked of all files.
-pub(crate) fn files_for(asked: &FilesAsked<'_>) -> Files
+pub fn files_for(asked: &FilesAsked<'_>) -> Files
     ensures { result ≡ files_of (asked_by asked.now) }
 {
     Files {
@@ -98,7 +98,7 @@ fn verdict_status(verdict: FileVerdict) -> u8
 }
 
 /// One file more, with this verdict or none.
-pub(crate) fn counted(counts: FileCounts, verdict: Option<FileVerdict>) -> FileCounts
+pub fn counted(counts: FileCounts, verdict: Option<FileVerdict>) -> FileCounts
     requires { CanCount counts }
     ensures { result ≡ spec.counted counts verdict }
 {
@@ -145,7 +145,7 @@ fn printed(
 }
 
 /// What is said of a file that is passed over with this status, of which this is printed.
-pub(crate) fn passed_over(text: Vec<u8>, status: u8) -> FileSaid
+pub fn passed_over(text: Vec<u8>, status: u8) -> FileSaid
     ensures text { result.text ≡ text }
     ensures verdict { result.verdict ≡ None }
     ensures status { result.status ≡ status }
@@ -158,7 +158,7 @@ pub(crate) fn passed_over(text: Vec<u8>, status: u8) -> FileSaid
 }
 
 /// Why a text has no output.
-fn refusal_in(error: EngineError) -> Refusal
+pub fn refusal_in(error: EngineError) -> Refusal
     ensures { result ≡ spec.refusal_in error }
 {
     match error {
@@ -168,7 +168,7 @@ fn refusal_in(error: EngineError) -> Refusal
 }
 
 /// Tells why a file of this name has no output, and answers what is said of it. Want of memory is not told.
-pub(crate) fn refuse<D: Desk>(
+pub fn refuse<D: Desk>(
     alloc: Global,
     work: Work,
     error: EngineError,
@@ -191,7 +191,7 @@ pub(crate) fn refuse<D: Desk>(
 }
 
 /// What is said of a file of this name of whose text this was found.
-pub(crate) fn said_of(
+pub fn said_of(
     alloc: Global,
     asked: &FilesAsked<'_>,
     name: &str,
@@ -229,7 +229,7 @@ fn look_into<D: Desk>(
 }
 
 /// The status of a text that isn't read as a program, and why it isn't, by what comes of it.
-pub(crate) fn refused_by(comes: &Comes) -> Option<(u8, Refusal)>
+pub fn refused_by(comes: &Comes) -> Option<(u8, Refusal)>
     ensures { (files : Files) (name : List ℕ) (check : Check) → IsMadeOf files name check comes.now
         → result ≡ spec.refused_by check }
 {
@@ -290,7 +290,7 @@ fn look_into_text<D: Desk>(
 }
 
 /// Tells that a file of this name can't be read, and answers what is said of it.
-pub(crate) fn tell_lost<D: Desk>(
+pub fn tell_lost<D: Desk>(
     alloc: Global,
     asked: &FilesAsked<'_>,
     name: &str,
@@ -326,7 +326,7 @@ fn look_into_file<D: Desk>(
 }
 
 /// What is printed, with the line behind it that counts the files, if there is to be one.
-pub(crate) fn with_last_line(
+pub fn with_last_line(
     alloc: Global,
     asked: &FilesAsked<'_>,
     mut output: Vec<u8>,
@@ -390,7 +390,7 @@ fn carry_files<D: Desk>(alloc: Global, asked: &FilesAsked<'_>, desk: &mut D) -> 
 }
 
 /// How races are looked for, and written.
-fn races_work(request: &RacesRequest<'_>) -> RacesWork
+pub fn races_work(request: &RacesRequest<'_>) -> RacesWork
     ensures { result ≡ requests.races_work request.now }
 {
     RacesWork {

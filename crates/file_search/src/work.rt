@@ -72,7 +72,7 @@ fn search_verdict(raced: bool, stopped: bool) -> FileVerdict
 /// Who is told how far the search of one file has come. Its seconds count from when that search began: from the next
 /// whole second, since no other is told, so that no search is stopped early.
 #[derive(Drop)]
-struct FileProgress<'a, P> {
+pub struct FileProgress<'a, P> {
     progress: &'a P,
     /// So many seconds have gone by at that next one.
     begun: u64,
@@ -93,6 +93,14 @@ impl<P: SearchProgress> SearchProgress for FileProgress<'_, P> {
 
     fn seconds(&self) -> u64 {
         self.progress.seconds().saturating_sub(self.begun)
+    }
+}
+
+/// Who is told how far the search of a file has come that begins now.
+pub fn from_now<P: SearchProgress>(progress: &P) -> FileProgress<'_, P> {
+    FileProgress {
+        progress,
+        begun: progress.seconds().saturating_add(1),
     }
 }
 
@@ -133,10 +141,7 @@ pub fn find<P: SearchProgress>(
     ensures found { IfOk result (λ found. IsFoundIn work settings.now name.now text.now found.output.items found.verdict) }
     ensures refused { IfErr result (IsRefused text.now settings.now) }
 {
-    let progress = FileProgress {
-        progress,
-        begun: progress.seconds().saturating_add(1),
-    };
+    let progress = from_now(progress);
     match work {
         Work::Races(work) => {
             let races = file_races(

@@ -10,14 +10,16 @@ use Rattle.cli.specs.declared.request.Request.TheVariants.{Check, Races, Searche
 use Rattle.litmus_command.proofs.EndLemmas.{check_reads, ends_otherwise, ends_unless_several, on_left, on_right}
 use Rattle.litmus_command.proofs.OverwriteLemmas.{kept_ends, kept_files, kept_otherwise, kept_reads, no_check, no_races, no_searches, same_path}
 use Rattle.litmus_command.proofs.ResultLemmas.{failures_are_known, known_above, known_below, known_so, tells_so}
-use Rattle.litmus_command.proofs.FilesEndLemmas.{files_read, races_end_unless_several}
+use Rattle.litmus_command.proofs.FilesEndLemmas.{files_read}
+use Rattle.litmus_command.proofs.PageEndLemmas.{all_races_end_unless_several, all_races_read}
 use Rattle.file_commands.specs.Check.{CheckEnds}
 use Rattle.file_commands.specs.Desks.{DeskState, once_told}
 use Rattle.file_commands.specs.Statuses.{status_of}
-use Rattle.litmus_command.specs.Command.{IsDone, IsStopped, OutputState, WarnsFirst, state_in}
+use Rattle.litmus_command.specs.Command.{EndsAs, EndsFor, IsDone, IsStopped, OutputState, WarnsFirst, state_in}
 use Rattle.litmus_command.specs.Ends.{Fails, IsCarriedOut, IsDoneWith, IsNoCheck, Succeeds}
 use Rattle.litmus_command.specs.Overwrite.{IsKept, Overwrites}
-use Rattle.file_commands.specs.Races.{RacesEnds, SearchesEnd, asked_of_races, asked_of_search}
+use Rattle.file_commands.specs.Races.{SearchesEnd, asked_of_search}
+use Rattle.page_command.specs.Ends.{AllRacesEnd}
 use Rattle.file_commands.specs.declared.failure.Failure.{Failure}
 use Rattle.file_commands.specs.declared.complaint.Complaint.{Complaint}
 use Rattle.file_commands.specs.declared.complaint.Complaint.TheVariants as complaint
@@ -61,6 +63,14 @@ warns_nothing (requests.Replay request) status told = refl
 warns_nothing (requests.Show request) status told = refl
 warns_nothing (requests.Check request) status told = inl refl
 warns_nothing requests.Calls status told = refl
+
+-- what ends so, whatever is asked, ends so for this
+ends_for : (request : Request) (status : ℕ) (before after : OutputState) → EndsAs status before after → EndsFor request status before after
+ends_for request status before after ends = record {
+  silent = λ from to. record { written = (ends.silent from to).written; files = inl (ends.silent from to).files };
+  failed = ends.failed;
+  known = ends.known;
+}
 
 -- it was done
 pub carried_well : (request : Request) (status : ℕ) (before after : DeskState) → IsNoCheck request → Succeeds request status before after
@@ -145,12 +155,12 @@ carried_kept request path status before after over kept =
       misused = λ is. inr (inr ((path, over), kept_files path status before after kept));
       unread = λ is. absurd (no 66 is (λ no. omega (arith, no)) (λ no. omega (arith, no)));
       checks = no_check request path status before after over;
-      races = no_races request path status before after over;
+      races = no_races request path status before after over kept;
       searches = no_searches request path status before after over;
       keeps = λ other too. subst (λ (p : List ℕ). IsKept p status before after) (same_path request path other over too) kept;
       reads = inr (kept_reads path status before after kept);
       tells = inl (inr (path, over));
-      ends = inr (kept_ends path status before after kept);
+      ends = inr (ends_for request status (state_in before) (state_in after) (kept_ends path status before after kept));
     }
 
 -- files were checked
@@ -174,16 +184,17 @@ carried_check request status before after bounds ends =
       keeps = λ path over. absurd over;
       reads = on_right (λ shown. shown.ends.reads) alone;
       tells = on_left inl (on_right (λ shown. (shown.first, shown.warned, shown.ends.tells)) alone);
-      ends = on_right (λ shown. shown.ends.ends) alone;
+      ends = on_right (λ shown. ends_for (Check request) status (state_in before) (state_in after) shown.ends.ends) alone;
     }
 
 -- the races of files were looked for
 pub carried_races : (request : RacesRequest) (status : ℕ) (before after : DeskState) → KeepsRacesBounds request
-    → RacesEnds request status before after → IsCarriedOut (Races request) status before after
-carried_races request status before after bounds ends =
-    let alone = races_end_unless_several request status before after bounds ends in
-    let at : (other : ℕ) → status ≡ other → RacesEnds request other before after =
-    λ other is. subst (λ (n : ℕ). RacesEnds request n before after) is ends in
+    → ((path : List ℕ) → Overwrites (Races request) path → ⊥) → AllRacesEnd request status before after
+    → IsCarriedOut (Races request) status before after
+carried_races request status before after bounds none ends =
+    let alone = all_races_end_unless_several request status before after bounds ends in
+    let at : (other : ℕ) → status ≡ other → AllRacesEnd request other before after =
+    λ other is. subst (λ (n : ℕ). AllRacesEnd request n before after) is ends in
     record {
       reported = λ is. (before.told, after.told, before.faults, after.faults, at 2 is);
       unreported = λ is. (before.told, after.told, before.faults, after.faults, at 0 is);
@@ -191,14 +202,14 @@ carried_races request status before after bounds ends =
       unwritten = λ is. (before.told, after.told, before.faults, after.faults, at 74 is);
       refused = λ of. (before.told, after.told, before.faults, after.faults, ends);
       misused = λ is. inr (inl (before.told, after.told, before.faults, after.faults, at 64 is));
-      unread = files_read (asked_of_races request) status before after ends;
+      unread = all_races_read request status before after ends;
       checks = tt;
-      races = ends;
+      races = inl ends;
       searches = tt;
-      keeps = λ path over. absurd over;
+      keeps = λ path over. absurd (none path over);
       reads = on_right (λ shown. shown.reads) alone;
       tells = on_left inl (on_right (λ shown. (before.told, refl, shown.tells)) alone);
-      ends = on_right (λ shown. shown.ends) alone;
+      ends = on_right (λ shown. ends_for (Races request) status (state_in before) (state_in after) shown.ends) alone;
     }
 
 -- several files were searched

@@ -9,7 +9,7 @@ use Rattle.cli.specs.declared.request.SearchRequest.{SearchRequest}
 use Rattle.file_commands.specs.Desks.{DeskState}
 use Rattle.file_commands.specs.Failures.{read_failure}
 use Rattle.file_commands.specs.Statuses.{status_of}
-use Rattle.litmus_command.specs.Command.{DoesNotRead, DoesRead, IsCut, IsDone, IsGiven, IsGivenInPart, IsMisused, IsOfFile, IsRefusedOf, NothingIsWritten, Reads}
+use Rattle.litmus_command.specs.Command.{DoesNotRead, DoesRead, IsCut, IsDone, IsGiven, IsGivenInPart, IsMisused, IsOfFile, IsRefusedOf, NothingIsWrittenFor, Reads}
 use Rattle.litmus_command.specs.Command.{SearchIsDone, OutputState, end_status_of, once_read, state_in}
 use Rattle.litmus_command.specs.Ends.{CommandEnds, Fails, IsDoneWith}
 use Rattle.file_commands.specs.Files.{FileEvent, Gave, noted}
@@ -26,7 +26,7 @@ err_ends request before after (Ok status) failure is fails = absurd is
 err_ends request before after (Err found) failure is fails = subst (λ (f : Failure). Fails request (status_of f) before after) (sym is) fails
 
 -- no write failed
-fails_unwritten : (request : Request) (status : ℕ) (before after : DeskState) → status ≢ 74 → NothingIsWritten (state_in before) (state_in after)
+pub fails_unwritten : (request : Request) (status : ℕ) (before after : DeskState) → status ≢ 74 → NothingIsWrittenFor request (state_in before) (state_in after)
     → (IsOfFile status → IsRefusedOf request status (state_in before) (state_in after))
     → (status ≡ 64 → IsMisused request (state_in before) (state_in after)) → (status ≡ 66 → DoesRead request)
     → Reads status before.faults after.faults → after.told ≡ before.told → Fails request status before after
@@ -42,7 +42,7 @@ fails_unwritten request status before after other nothing refused misused unread
 }
 
 -- a status that is neither 65 nor 70 is of no file
-of_no_file : (status other : ℕ) → status ≡ other → other ≢ 65 → other ≢ 70 → IsOfFile status → ⊥
+pub of_no_file : (status other : ℕ) → status ≡ other → other ≢ 65 → other ≢ 70 → IsOfFile status → ⊥
 of_no_file status other is one two (inl of) = one (sym is ∙ of)
 of_no_file status other is one two (inr of) = two (sym is ∙ of)
 
@@ -50,19 +50,19 @@ of_no_file status other is one two (inr of) = two (sym is ∙ of)
 pub fails_early : (request : Request) (status : ℕ) (at : DeskState) → (status ≡ 64) ⊎ (status ≡ 71) → (status ≡ 64 → DoesNotRead request)
     → Fails request status at at
 fails_early request status at (inl is) unread =
-    fails_unwritten request status at at (λ no. omega (arith, is, no)) (record { written = refl; files = inl refl })
+    fails_unwritten request status at at (λ no. omega (arith, is, no)) (record { written = refl; files = inl (inl refl) })
     (λ of. absurd (of_no_file status 64 is (λ no. omega (arith, no)) (λ no. omega (arith, no)) of)) (λ at. inl (unread at, refl))
     (λ no. absurd (omega (arith, is, no))) (record { fails = λ no. absurd (omega (arith, is, no)); works = λ _. refl }) refl
 fails_early request status at (inr is) unread =
-    fails_unwritten request status at at (λ no. omega (arith, is, no)) (record { written = refl; files = inl refl })
+    fails_unwritten request status at at (λ no. omega (arith, is, no)) (record { written = refl; files = inl (inl refl) })
     (λ of. absurd (of_no_file status 71 is (λ no. omega (arith, no)) (λ no. omega (arith, no)) of)) (λ no. absurd (omega (arith, is, no)))
     (λ no. absurd (omega (arith, is, no))) (record { fails = λ no. absurd (omega (arith, is, no)); works = λ _. refl }) refl
 
 -- what a call answers whose read failed
-abbrev read_err : ReadFault → Result (Vec ℕ Global) ReadFault
+abbrev pub read_err : ReadFault → Result (Vec ℕ Global) ReadFault
 read_err why = Err why
 
-can_be_read : read_err fault.OutOfMemory ≡ read_err fault.CannotRead → ⊥
+pub can_be_read : read_err fault.OutOfMemory ≡ read_err fault.CannotRead → ⊥
 can_be_read is = absurd (cc)
 
 -- the file can't be read, or there is no memory for it
@@ -72,11 +72,11 @@ pub fails_unread : (request : Request) (why : ReadFault) (before after : DeskSta
     → ((IsErrOf (read_err why) fault.CannotRead → ⊥) → after.faults ≡ before.faults)
     → Fails request (status_of (read_failure why)) before after
 fails_unread request fault.OutOfMemory before after reads written files told fails works =
-    fails_unwritten request 71 before after (λ no. omega (arith, no)) (record { written = written; files = inl files })
+    fails_unwritten request 71 before after (λ no. omega (arith, no)) (record { written = written; files = inl (inl files) })
     (λ of. absurd (of_no_file 71 71 refl (λ no. omega (arith, no)) (λ no. omega (arith, no)) of)) (λ no. absurd (omega (arith, no)))
     (λ _. reads) (record { fails = λ no. absurd (omega (arith, no)); works = λ _. works can_be_read }) told
 fails_unread request fault.CannotRead before after reads written files told fails works =
-    fails_unwritten request 66 before after (λ no. omega (arith, no)) (record { written = written; files = inl files })
+    fails_unwritten request 66 before after (λ no. omega (arith, no)) (record { written = written; files = inl (inl files) })
     (λ of. absurd (of_no_file 66 66 refl (λ no. omega (arith, no)) (λ no. omega (arith, no)) of)) (λ no. absurd (omega (arith, no)))
     (λ _. reads) (record { fails = λ _. fails refl; works = λ other. absurd (other refl) }) told
 
@@ -107,7 +107,7 @@ module _ (request : Request) (before after : DeskState) (file : List ℕ) (limit
       fails_unwritten request status before after other
       (record {
         written = ap (λ (at : DeskState). at.written) is_read;
-        files = inr (file, limit, text, ap (λ (at : DeskState). at.files) is_read);
+        files = inl (inr (file, limit, text, ap (λ (at : DeskState). at.files) is_read));
       })
       (λ of. refused)
       (λ is. inr (inl (subst (λ (n : ℕ). IsRefusedOf request n (state_in before) (state_in after)) is refused)))

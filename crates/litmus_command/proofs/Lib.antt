@@ -3,6 +3,8 @@ mod AskedLemmas
 mod ResultLemmas
 mod EndLemmas
 mod FilesEndLemmas
+mod PageEndLemmas
 mod OverwriteLemmas
 mod CommandLemmas
 mod CarryLemmas
+mod ShowLemmas

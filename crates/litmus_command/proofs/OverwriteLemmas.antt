@@ -1,10 +1,12 @@
 -- What is so where a file that would be overwritten was kept.
-use Rattle.std.proofs.Common.{◌≡◌, ◌≤◌, ◌∙◌, ◌⊎◌, ℕ, List, ap, arith, inl, inr, sym}
+use Rattle.std.proofs.Common.{◌≡◌, ◌≤◌, ◌∙◌, ◌⊎◌, [], ℕ, List, None, Option, Some, ap, arith, inl, inr, sym, unwrap_or}
+use Rattle.std.specs.Option.{option_map}
 use Rattle.cli.specs.declared.request.Request.{Request}
 use Rattle.cli.specs.declared.request.Request.TheVariants as requests
+use Rattle.cli.specs.declared.request.ShowRequest.{ShowRequest}
 use Rattle.file_commands.specs.Desks.{DeskState}
 use Rattle.litmus_command.specs.Command.{AreFilesSearched, AreRaced, EndsAs, IsChecked, Reads, OutputState, state_in}
-use Rattle.litmus_command.specs.Overwrite.{IsKept, Overwrites}
+use Rattle.litmus_command.specs.Overwrite.{AreNamedPath, IsKept, Overwrites}
 
 -- it has one of two statuses
 pub kept_status : (path : List ℕ) (status : ℕ) (before after : DeskState) → IsKept path status before after → (status ≡ 64) ⊎ (status ≡ 71)
@@ -66,32 +68,46 @@ no_check (requests.Show request) path status before after over = tt
 no_check (requests.Check request) path status before after over = absurd over
 no_check requests.Calls path status before after over = tt
 
+-- what is written of a picture is to be written to the file of this path
+named_written : (input output : Option (List ℕ)) (path : List ℕ) → AreNamedPath input output path → output ≡ Some path
+named_written None output path over = absurd over
+named_written (Some input) output path over = over.written
+
+show_written : (request : ShowRequest) (path : List ℕ) → Overwrites (requests.Show request) path
+    → option_map (λ svg. svg.now) request.svg ≡ Some path
+show_written request path (inl first) = first.written
+show_written request path (inr second) = named_written (option_map (λ source. source.now) request.source) _ path second
+
 -- there is one such path
 pub same_path : (request : Request) (one other : List ℕ) → Overwrites request one → Overwrites request other → one ≡ other
 same_path (requests.Step request) one other over too = sym over.read ∙ too.read
 same_path (requests.Run request) one other over too = sym over.read ∙ too.read
 same_path (requests.Search request) one other over too = sym over.read ∙ too.read
 same_path (requests.Searches request) one other over too = absurd over
-same_path (requests.Races request) one other over too = absurd over
+same_path (requests.Races request) one other over too =
+    ap (λ (written : Option (List ℕ)). unwrap_or written []) (sym over.written ∙ too.written)
 same_path (requests.Replay request) one other over too = absurd over
-same_path (requests.Show request) one other over too = sym over.read ∙ too.read
+same_path (requests.Show request) one other over too =
+    let first = show_written request one over in
+    let second = show_written request other too in
+    cc
 same_path (requests.Check request) one other over too = absurd over
 same_path requests.Calls one other over too = absurd over
 
--- and no file is written with races
+-- with races a file may be kept
 pub no_races : (request : Request) (path : List ℕ) (status : ℕ) (before after : DeskState) → Overwrites request path
-    → AreRaced request status before after
-no_races (requests.Step request) path status before after over = tt
-no_races (requests.Run request) path status before after over = tt
-no_races (requests.Search request) path status before after over = tt
-no_races (requests.Searches request) path status before after over = tt
-no_races (requests.Races request) path status before after over = absurd over
-no_races (requests.Replay request) path status before after over = tt
-no_races (requests.Show request) path status before after over = tt
-no_races (requests.Check request) path status before after over = tt
-no_races requests.Calls path status before after over = tt
+    → IsKept path status before after → AreRaced request status before after
+no_races (requests.Step request) path status before after over kept = tt
+no_races (requests.Run request) path status before after over kept = tt
+no_races (requests.Search request) path status before after over kept = tt
+no_races (requests.Searches request) path status before after over kept = tt
+no_races (requests.Races request) path status before after over kept = inr (path, over, kept)
+no_races (requests.Replay request) path status before after over kept = tt
+no_races (requests.Show request) path status before after over kept = tt
+no_races (requests.Check request) path status before after over kept = tt
+no_races requests.Calls path status before after over kept = tt
 
--- nor with a search of several files
+-- no file is written with a search of several files
 pub no_searches : (request : Request) (path : List ℕ) (status : ℕ) (before after : DeskState) → Overwrites request path
     → AreFilesSearched request status before after
 no_searches (requests.Step request) path status before after over = tt

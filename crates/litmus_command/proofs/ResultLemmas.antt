@@ -19,6 +19,8 @@ use Rattle.trace_replay.specs.declared.accepted.TraceError.TheVariants as trace
 use Rattle.timeline.specs.declared.picture.error.PictureError.{PictureError}
 use Rattle.timeline.specs.declared.picture.error.PictureError.TheVariants as picture
 use Rattle.litmus_command.specs.Engine.{IsRefused, Stops, StopsReady, StopsRun}
+use Rattle.litmus_command.specs.Show.{IsNoPicture, IsNoText, IsNotDrawn, IsUnsuited}
+use Rattle.timeline.specs.declared.picture.draw.Picture.{Picture}
 use Rattle.run_stats.specs.Errors as tally
 use Rattle.search_output.specs.Texts as search
 use Rattle.litmus_command.specs.Command.{StatusComplaint}
@@ -195,6 +197,7 @@ failures_are_known (failure.Engine error) = engine_known error
 failures_are_known (failure.Trace error) = trace_known error
 failures_are_known (failure.Picture (picture.Trace error)) = trace_known error
 failures_are_known (failure.Picture picture.TooLong) = inl (omega arith, omega arith)
+failures_are_known failure.OtherSource = inl (omega arith, omega arith)
 
 -- which is neither 0 nor 2
 pub known_above : (status : ℕ) → IsKnown status → 64 ≤ status
@@ -281,3 +284,52 @@ draws_no_sink picture.TooLong is = omega (arith, is)
 pub draws_no_read : (error : PictureError) → picture_status_of error ≡ 66 → ⊥
 draws_no_read (picture.Trace error) is = replays_no_read error is
 draws_no_read picture.TooLong is = omega (arith, is)
+
+-- so it is where a litmus text doesn't suit the trace
+no_text_no_sink : (source : List ℕ) (error : EngineError) → IsNoText source error → engine_status_of error ≡ 74 → ⊥
+no_text_no_sink source (engine.Text error) reason is = text_is_no_sink error is
+no_text_no_sink source (engine.Run error) reason is = reason
+no_text_no_sink source engine.SinkFailed reason is = reason
+
+no_text_no_read : (source : List ℕ) (error : EngineError) → IsNoText source error → engine_status_of error ≡ 66 → ⊥
+no_text_no_read source (engine.Text error) reason is = text_is_no_read error is
+no_text_no_read source (engine.Run error) reason is = reason
+no_text_no_read source engine.SinkFailed reason is = reason
+
+unsuited_no_sink : (source : List ℕ) (drawn : Picture) (why : Failure) → IsUnsuited source drawn why → status_of why ≡ 74 → ⊥
+unsuited_no_sink source drawn failure.BadSchedule reason is = reason
+unsuited_no_sink source drawn failure.BadPlace reason is = reason
+unsuited_no_sink source drawn failure.CannotRead reason is = reason
+unsuited_no_sink source drawn failure.CannotWrite reason is = reason
+unsuited_no_sink source drawn failure.OutOfMemory reason is = omega (arith, is)
+unsuited_no_sink source drawn (failure.Engine error) reason is = no_text_no_sink source error reason is
+unsuited_no_sink source drawn (failure.Trace error) reason is = reason
+unsuited_no_sink source drawn (failure.Picture error) reason is = reason
+unsuited_no_sink source drawn failure.OtherSource reason is = omega (arith, is)
+
+unsuited_no_read : (source : List ℕ) (drawn : Picture) (why : Failure) → IsUnsuited source drawn why → status_of why ≡ 66 → ⊥
+unsuited_no_read source drawn failure.BadSchedule reason is = reason
+unsuited_no_read source drawn failure.BadPlace reason is = reason
+unsuited_no_read source drawn failure.CannotRead reason is = reason
+unsuited_no_read source drawn failure.CannotWrite reason is = reason
+unsuited_no_read source drawn failure.OutOfMemory reason is = omega (arith, is)
+unsuited_no_read source drawn (failure.Engine error) reason is = no_text_no_read source error reason is
+unsuited_no_read source drawn (failure.Trace error) reason is = reason
+unsuited_no_read source drawn (failure.Picture error) reason is = reason
+unsuited_no_read source drawn failure.OtherSource reason is = omega (arith, is)
+
+no_picture_no_sink : (bytes : List ℕ) (why : Failure) → IsNoPicture bytes why → status_of why ≡ 74 → ⊥
+no_picture_no_sink bytes why reason is = draws_no_sink reason.error (sym (ap status_of reason.failure_is) ∙ is)
+
+no_picture_no_read : (bytes : List ℕ) (why : Failure) → IsNoPicture bytes why → status_of why ≡ 66 → ⊥
+no_picture_no_read bytes why reason is = draws_no_read reason.error (sym (ap status_of reason.failure_is) ∙ is)
+
+pub shows_no_sink : (bytes : List ℕ) (source : Option (List ℕ)) (why : Failure) → IsNotDrawn bytes source why → status_of why ≡ 74 → ⊥
+shows_no_sink bytes None why reason is = no_picture_no_sink bytes why reason is
+shows_no_sink bytes (Some source) why (inl reason) is = no_picture_no_sink bytes why reason is
+shows_no_sink bytes (Some source) why (inr reason) is = unsuited_no_sink source reason.picture why reason.unsuited is
+
+pub shows_no_read : (bytes : List ℕ) (source : Option (List ℕ)) (why : Failure) → IsNotDrawn bytes source why → status_of why ≡ 66 → ⊥
+shows_no_read bytes None why reason is = no_picture_no_read bytes why reason is
+shows_no_read bytes (Some source) why (inl reason) is = no_picture_no_read bytes why reason is
+shows_no_read bytes (Some source) why (inr reason) is = unsuited_no_read source reason.picture why reason.unsuited is

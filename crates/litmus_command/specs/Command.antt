@@ -48,16 +48,16 @@ use Rattle.litmus_command.specs.Engine.{IsRefused, TextLeaves}
 use Rattle.file_commands.specs.Files.{FileEvent, Gave, Has, OnlyRead, noted}
 use Rattle.litmus_command.specs.Replay.{IsLineOf}
 use Rattle.file_commands.specs.Lists.{SpellsNoPlaces, SpellsNoSchedule}
-use Rattle.litmus_command.specs.Overwrite.{Overwrites}
+use Rattle.litmus_command.specs.Overwrite.{IsKept, Overwrites}
 use Rattle.file_commands.specs.Settings.{AskSettings}
-use Rattle.file_commands.specs.Races.{AreSeveral, RacesEnds, SearchesEnd}
-use Rattle.litmus_command.specs.Show.{IsDrawn}
-use Rattle.file_commands.specs.Statuses.{complaint_status_of, engine_status_of, picture_status_of}
+use Rattle.file_commands.specs.Races.{AreSeveral, SearchesEnd}
+use Rattle.litmus_command.specs.Show.{IsDrawn, IsNotDrawn}
+use Rattle.litmus_command.specs.declared.show.Wanted as drawing
+use Rattle.file_commands.specs.Statuses.{complaint_status_of, engine_status_of, status_of}
 use Rattle.file_commands.specs.Statuses.{trace_status_of}
-use Rattle.picture_text.specs.declared.cells.Style.{Style}
+use Rattle.file_commands.specs.declared.failure.Failure.{Failure}
+use Rattle.page_command.specs.Ends.{AllRacesEnd}
 use Rattle.picture_text.specs.declared.cells.Style.TheVariants.{Ascii}
-use Rattle.timeline.specs.picture.Drawn.{IsUndrawn}
-use Rattle.timeline.specs.declared.picture.error.PictureError.{PictureError}
 use Rattle.file_commands.specs.StandardError.{heard}
 use Rattle.file_commands.specs.declared.complaint.Complaint.{Complaint}
 use Rattle.file_commands.specs.declared.complaint.Complaint.TheVariants as complaint
@@ -268,21 +268,68 @@ pub record ReplayIsCut (request : ReplayRequest) (before after : OutputState) : 
   pub said : IsSaid request bytes line before after
   pub begun : HoldsBeginning line before.written after.written
 
--- This is left of a trace that is drawn as it is asked: the text, with ASCII alone where that is asked for, and the
--- SVG, if it is asked for. A report that the trace tells of doesn't count as one here.
-pub record IsShown (request : ShowRequest) (bytes : List ℕ) (raced : Bool) (output : List ℕ) (svg : Option (List ℕ)) : Type 0 where
-  pub style : Style
-  pub ascii : request.ascii ≡ true → style ≡ Ascii
-  pub drawn : IsDrawn bytes style (is_some request.svg) output svg
+-- This is left of a trace that is drawn as it is asked, with what a litmus text says of it, if there is one: the text,
+-- with ASCII alone where that is asked for, and with indices where these are, and the SVG, if it is asked for. A report
+-- that the trace tells of doesn't count as one here.
+pub record IsShown (request : ShowRequest) (source : Option (List ℕ)) (bytes : List ℕ) (raced : Bool) (output : List ℕ)
+    (svg : Option (List ℕ)) : Type 0 where
+  pub wanted : drawing.Wanted
+  pub ascii : request.ascii ≡ true → wanted.style ≡ Ascii
+  pub slots : wanted.slots ≡ request.slots
+  pub svg_too : wanted.svg ≡ is_some request.svg
+  pub drawn : IsDrawn bytes source wanted output svg
   pub unraced : raced ≡ false
 
--- the file that is asked for was read, and is not drawn, for a reason that ends with this status
+-- the litmus file that a trace is of, and the text that it gave
+pub record SourceFile : Type 0 where
+  pub path : List ℕ
+  pub text : List ℕ
+
+abbrev pub text_of : Option SourceFile → Option (List ℕ)
+text_of source = option_map (λ own. own.text) source
+
+-- it is the one that is asked for
+abbrev pub IsAskedSource : ShowRequest → Option SourceFile → Type 0
+IsAskedSource request source = option_map (λ own. own.path) source ≡ option_map (λ path. path.now) request.source
+
+-- once the trace gave these bytes, and then that file, if there is one, its text
+abbrev pub once_sourced : Option SourceFile → OutputState → OutputState
+once_sourced None before = before
+once_sourced (Some source) before = once_read source.path file_bytes source.text before
+
+abbrev pub once_shown : ShowRequest → (bytes : List ℕ) → Option SourceFile → OutputState → OutputState
+once_shown request bytes source before = once_sourced source (once_read request.trace.now size_limit bytes before)
+
+-- the files that are asked for were read, the trace was drawn, and what is left of that was given
+pub record ShowIsDone (request : ShowRequest) (raced : Bool) (before after : OutputState) : Type 0 where
+  pub bytes : List ℕ
+  pub source : Option SourceFile
+  pub asked : IsAskedSource request source
+  pub output : List ℕ
+  pub svg : Option (List ℕ)
+  pub left : IsShown request (text_of source) bytes raced output svg
+  pub given : IsGiven (svg_path request) output svg (once_shown request bytes source before) after
+
+-- and it could not all be given
+pub record ShowIsCut (request : ShowRequest) (before after : OutputState) : Type 0 where
+  pub bytes : List ℕ
+  pub source : Option SourceFile
+  pub asked : IsAskedSource request source
+  pub raced : Bool
+  pub output : List ℕ
+  pub svg : Option (List ℕ)
+  pub left : IsShown request (text_of source) bytes raced output svg
+  pub given : IsGivenInPart (svg_path request) output svg (once_shown request bytes source before) after
+
+-- the files that are asked for were read, and nothing is drawn, for a reason that ends with this status
 pub record ShowIsRefused (request : ShowRequest) (status : ℕ) (before after : OutputState) : Type 0 where
   pub bytes : List ℕ
-  pub error : PictureError
-  pub undrawn : IsUndrawn bytes error
-  pub status_is : status ≡ picture_status_of error
-  pub files : after.files ≡ noted before.files (Gave request.trace.now size_limit bytes)
+  pub source : Option SourceFile
+  pub asked : IsAskedSource request source
+  pub failure : Failure
+  pub undrawn : IsNotDrawn bytes (text_of source) failure
+  pub status_is : status ≡ status_of failure
+  pub files : after.files ≡ (once_shown request bytes source before).files
 
 -- what a search was asked to find was found, with a report or without one, and others remain or none
 abbrev pub SearchIsDone : SearchRequest → (raced stopped : Bool) → OutputState → OutputState → Type 0
@@ -302,7 +349,7 @@ CheckIsEnded request status before after = (told later : Option (List Complaint)
 
 -- so it is of `races`
 abbrev pub RacesAreEnded : RacesRequest → (status : ℕ) → OutputState → OutputState → Type 0
-RacesAreEnded request status before after = (told later : Option (List Complaint)) × (faults more : ℕ) × RacesEnds request status
+RacesAreEnded request status before after = (told later : Option (List Complaint)) × (faults more : ℕ) × AllRacesEnd request status
     (record { written = before.written; failures = before.failures; files = before.files; told = told; faults = faults })
     (record { written = after.written; failures = after.failures; files = after.files; told = later; faults = more })
 
@@ -336,8 +383,7 @@ IsDone (requests.Races request) true before after = RacesAreEnded request 2 befo
 IsDone (requests.Races request) false before after = RacesAreEnded request 0 before after
 IsDone (requests.Replay request) true before after = ⊥
 IsDone (requests.Replay request) false before after = ReplayIsDone request before after
-IsDone (requests.Show request) raced before after =
-    FileIsRun request.trace.now size_limit (svg_path request) (IsShown request) raced before after
+IsDone (requests.Show request) raced before after = ShowIsDone request raced before after
 IsDone (requests.Check request) true before after = ⊥
 IsDone (requests.Check request) false before after = CheckIsEnded request 0 before after
 IsDone requests.Calls true before after = ⊥
@@ -364,8 +410,7 @@ IsCut (requests.Search request) before after =
 IsCut (requests.Searches request) before after = SearchesAreEnded request 74 before after
 IsCut (requests.Races request) before after = RacesAreEnded request 74 before after
 IsCut (requests.Replay request) before after = ReplayIsCut request before after
-IsCut (requests.Show request) before after =
-    FileIsRunInPart request.trace.now size_limit (svg_path request) (IsShown request) before after
+IsCut (requests.Show request) before after = ShowIsCut request before after
 IsCut (requests.Check request) before after = CheckIsEnded request 74 before after
 IsCut requests.Calls before after = CallsAreCut before after
 
@@ -411,14 +456,14 @@ DoesRead (requests.Show request) = Unit {0}
 DoesRead (requests.Check request) = (settings : Settings) × CheckAsksFor request settings
 DoesRead requests.Calls = Unit {0}
 
--- it is a check of several files, asks for the races of several, or for a search of several or one for programs that
--- read what is found
+-- it is a check of several files, asks for the races of several or for a page, or for a search of several or one for
+-- programs that read what is found
 abbrev pub IsOfSeveral : Request → Type 0
 IsOfSeveral (requests.Step request) = ⊥
 IsOfSeveral (requests.Run request) = ⊥
 IsOfSeveral (requests.Search request) = ⊥
 IsOfSeveral (requests.Searches request) = Unit {0}
-IsOfSeveral (requests.Races request) = AreSeveral request
+IsOfSeveral (requests.Races request) = AreSeveral request ⊎ (is_some request.html ≡ true)
 IsOfSeveral (requests.Replay request) = ⊥
 IsOfSeveral (requests.Show request) = ⊥
 IsOfSeveral (requests.Check request) = IsSeveral request
@@ -441,13 +486,15 @@ IsChecked (requests.Show request) status before after = Unit {0}
 IsChecked (requests.Check request) status before after = CheckEnds request status before after
 IsChecked requests.Calls status before after = Unit {0}
 
--- where races are asked for: how that ended, with what standard error was told of each file
+-- where races are asked for: how that ended, with what standard error was told of each file, or that a file was kept
+-- which the page would overwrite
 abbrev pub AreRaced : Request → (status : ℕ) → DeskState → DeskState → Type 0
 AreRaced (requests.Step request) status before after = Unit {0}
 AreRaced (requests.Run request) status before after = Unit {0}
 AreRaced (requests.Search request) status before after = Unit {0}
 AreRaced (requests.Searches request) status before after = Unit {0}
-AreRaced (requests.Races request) status before after = RacesEnds request status before after
+AreRaced (requests.Races request) status before after =
+    AllRacesEnd request status before after ⊎ ((path : List ℕ) × Overwrites (requests.Races request) path × IsKept path status before after)
 AreRaced (requests.Replay request) status before after = Unit {0}
 AreRaced (requests.Show request) status before after = Unit {0}
 AreRaced (requests.Check request) status before after = Unit {0}
@@ -555,6 +602,28 @@ pub record NothingIsWritten (before after : OutputState) : Type 0 where
   pub written : after.written ≡ before.written
   pub files : OnlyRead before.files after.files
 
+-- a picture is asked for with what a litmus file says of the trace
+abbrev pub IsWithSource : Request → Type 0
+IsWithSource (requests.Step request) = ⊥
+IsWithSource (requests.Run request) = ⊥
+IsWithSource (requests.Search request) = ⊥
+IsWithSource (requests.Searches request) = ⊥
+IsWithSource (requests.Races request) = ⊥
+IsWithSource (requests.Replay request) = ⊥
+IsWithSource (requests.Show request) = is_some request.source ≡ true
+IsWithSource (requests.Check request) = ⊥
+IsWithSource requests.Calls = ⊥
+
+-- one file was read at most; for such a picture two
+abbrev pub OnlyReadFor : Request → Option (List FileEvent) → Option (List FileEvent) → Type 0
+OnlyReadFor request before after = OnlyRead before after
+    ⊎ (IsWithSource request × ((middle : Option (List FileEvent)) × OnlyRead before middle × OnlyRead middle after))
+
+-- nothing was written for what is asked
+pub record NothingIsWrittenFor (request : Request) (before after : OutputState) : Type 0 where
+  pub written : after.written ≡ before.written
+  pub files : OnlyReadFor request before.files after.files
+
 -- what each status from 64 to 74 says, and which statuses there are
 pub record EndsAs (status : ℕ) (before after : OutputState) : Type 0 where
   -- from 64 to 71, nothing was written
@@ -562,6 +631,13 @@ pub record EndsAs (status : ℕ) (before after : OutputState) : Type 0 where
   -- standard output or the trace's file could not be written
   pub failed : status ≡ 74 → CountsFailure before.failures after.failures
   -- no other status
+  pub known : (status ≡ 0) ⊎ (status ≡ 2) ⊎ ((64 ≤ status) × (status ≤ 66))
+      ⊎ (status ≡ 70) ⊎ (status ≡ 71) ⊎ (status ≡ 74) ⊎ (status ≡ 75)
+
+-- the same of what is asked
+pub record EndsFor (request : Request) (status : ℕ) (before after : OutputState) : Type 0 where
+  pub silent : 64 ≤ status → status ≤ 71 → NothingIsWrittenFor request before after
+  pub failed : status ≡ 74 → CountsFailure before.failures after.failures
   pub known : (status ≡ 0) ⊎ (status ≡ 2) ⊎ ((64 ≤ status) × (status ≤ 66))
       ⊎ (status ≡ 70) ⊎ (status ≡ 71) ⊎ (status ≡ 74) ⊎ (status ≡ 75)
 

@@ -3,8 +3,8 @@ use Rattle.std.specs.Prelude.{◌≡◌, ◌≢◌, ◌⊎◌, ℕ, List, Err, O
 use Rattle.cli.specs.declared.request.Request.{Request}
 use Rattle.file_commands.specs.Desks.{DeskState}
 use Rattle.file_commands.specs.Statuses.{status_of}
-use Rattle.litmus_command.specs.Command.{AreFilesSearched, AreRaced, DoesRead, EndsAs, IsChecked, IsCut, IsDone, IsMisused, IsOfFile, IsOfSeveral, IsRefusedOf, IsStopped}
-use Rattle.litmus_command.specs.Command.{IsToldApart, IsToldWith, NothingIsWritten, Reads, OutputState, state_in}
+use Rattle.litmus_command.specs.Command.{AreFilesSearched, AreRaced, DoesRead, EndsFor, IsChecked, IsCut, IsDone, IsMisused, IsOfFile, IsOfSeveral, IsRefusedOf, IsStopped}
+use Rattle.litmus_command.specs.Command.{IsToldApart, IsToldWith, NothingIsWrittenFor, Reads, OutputState, state_in}
 use Rattle.litmus_command.specs.Overwrite.{IsKept, Overwrites}
 use Rattle.file_commands.specs.declared.failure.Failure.{Failure}
 use Rattle.report_text.specs.Sink.{CountsFailure}
@@ -24,7 +24,7 @@ pub record Succeeds (request : Request) (status : ℕ) (before after : DeskState
 
 -- what is asked failed, with this status, and standard error was told nothing so far
 pub record Fails (request : Request) (status : ℕ) (before after : DeskState) : Type 0 where
-  pub silent : status ≢ 74 → NothingIsWritten (state_in before) (state_in after)
+  pub silent : status ≢ 74 → NothingIsWrittenFor request (state_in before) (state_in after)
   pub failed : status ≡ 74 → CountsFailure before.failures after.failures
   pub cut : status ≡ 74 → IsCut request (state_in before) (state_in after)
   pub refused : IsOfFile status → IsRefusedOf request status (state_in before) (state_in after)
@@ -61,4 +61,4 @@ pub record IsCarriedOut (request : Request) (status : ℕ) (before after : DeskS
   pub keeps : (path : List ℕ) → Overwrites request path → IsKept path status before after
   pub reads : IsOfSeveral request ⊎ Reads status before.faults after.faults
   pub tells : IsToldApart request ⊎ IsToldWith request status before.told after.told
-  pub ends : IsOfSeveral request ⊎ EndsAs status (state_in before) (state_in after)
+  pub ends : IsOfSeveral request ⊎ EndsFor request status (state_in before) (state_in after)

@@ -1,6 +1,7 @@
 -- What would be written over the file that it comes from.
-use Rattle.std.specs.Prelude.{◌≡◌, ◌⊎◌, ◌∷◌, [], ℕ, List, Option, Some, codes}
-use Rattle.std.specs.List.{concat}
+use Rattle.std.specs.Borrow.{Bor}
+use Rattle.std.specs.Prelude.{◌≡◌, ◌⊎◌, ◌∷◌, [], ℕ, IsTrue, List, None, Option, Some, bytes_eq, codes}
+use Rattle.std.specs.List.{concat, list_any}
 use Rattle.std.specs.Option.{option_map}
 use Rattle.diagnostics.specs.declared.check_output.told.Lines.{Lines}
 use Rattle.cli.specs.declared.request.Request.{Request}
@@ -15,15 +16,26 @@ pub record AreSamePath (input : List ℕ) (output : Option (List ℕ)) (path : L
   pub read : input ≡ path
   pub written : output ≡ Some path
 
+-- so it is with a second file that is read, if one is named
+abbrev pub AreNamedPath : (input output : Option (List ℕ)) → (path : List ℕ) → Type 0
+AreNamedPath None output path = ⊥
+AreNamedPath (Some input) output path = AreSamePath input output path
+
+-- this is the path of one of the files that are read, and that of one that is to be written
+pub record IsPathOfOne (inputs : List (Bor (List ℕ))) (output : Option (List ℕ)) (path : List ℕ) : Type 0 where
+  pub read : IsTrue (list_any (λ input. bytes_eq input.now path) inputs)
+  pub written : output ≡ Some path
+
 -- the file of this path is read for what is asked, and is to be written with what comes of that
 abbrev pub Overwrites : Request → (path : List ℕ) → Type 0
 Overwrites (requests.Step request) path = AreSamePath request.file.now (option_map (λ trace. trace.now) request.options.trace) path
 Overwrites (requests.Run request) path = AreSamePath request.file.now (option_map (λ trace. trace.now) request.options.trace) path
 Overwrites (requests.Search request) path = AreSamePath request.file.now (option_map (λ trace. trace.now) request.options.trace) path
 Overwrites (requests.Searches request) path = ⊥
-Overwrites (requests.Races request) path = ⊥
+Overwrites (requests.Races request) path = IsPathOfOne request.files.items (option_map (λ html. html.now) request.html) path
 Overwrites (requests.Replay request) path = ⊥
 Overwrites (requests.Show request) path = AreSamePath request.trace.now (option_map (λ svg. svg.now) request.svg) path
+    ⊎ AreNamedPath (option_map (λ source. source.now) request.source) (option_map (λ svg. svg.now) request.svg) path
 Overwrites (requests.Check request) path = ⊥
 Overwrites requests.Calls path = ⊥
 

@@ -1,6 +1,6 @@
 //! The command line: what the words ask for is done, and the status that the program ends with.
 
-ghost use Rattle.std.specs.Prelude.{◌≡◌, ◌≢◌, ◌≤◌, ◌⊎◌, ℕ, List, IfErr, IfOk, OnErr, OnOk, is_some, true, false, map};
+ghost use Rattle.std.specs.Prelude.{◌≡◌, ◌≢◌, ◌≤◌, ◌⊎◌, ℕ, List, IfErr, IfOk, None, OnErr, OnOk, Some, is_some, true, false, map};
 ghost use Rattle.cli.specs.Bounds.{KeepsBounds, KeepsRunBounds, KeepsSearchBounds, MayBeAsked};
 ghost use Rattle.cli.specs.Words.{AskForHelp, AskForVersion, MayFail};
 ghost use Rattle.cli.specs.declared.request.Request as spec;
@@ -8,7 +8,7 @@ ghost use Rattle.clap.specs.Words.{kind_of};
 ghost use Rattle.file_commands.specs.Check.{IsOutOfMemory};
 ghost use Rattle.file_commands.specs.Desks.{DeskState, once_told};
 ghost use Rattle.file_commands.specs.Statuses.{status_of};
-ghost use Rattle.litmus_command.specs.Command.{AskForOne, AsksFor, EndsAs, HelpIsCut, HelpIsGiven, IsCut, IsDone, IsGiven, IsGivenInPart};
+ghost use Rattle.litmus_command.specs.Command.{AskForOne, AsksFor, EndsAs, EndsFor, HelpIsCut, HelpIsGiven, IsCut, IsDone, IsGiven, IsGivenInPart};
 ghost use Rattle.litmus_command.specs.Command.{AreFilesSearched, AreRaced, IsChecked, IsOfFile, IsOfSeveral, IsRefusedOf, IsStopped, IsToldApart, IsToldWith, OfAsked};
 ghost use Rattle.litmus_command.specs.Command.{DoesNotRead, DoesRead, IsFault, IsMisused, Reads, StatusComplaint, UsageIsTold, VersionIsCut, VersionIsGiven};
 ghost use Rattle.litmus_command.specs.Command.{end_status_of, state_in};
@@ -27,7 +27,7 @@ use crate::engine::run_text;
 use crate::overwrite::{overwritten, refuse_overwrite};
 use crate::replay::replayed;
 use crate::search::search_for;
-use crate::show::drawn;
+use crate::show::{Wanted, drawn, drawn_with};
 use clap::error::ErrorKind;
 use cli::{
     ReplayRequest, Request, RunOptions, RunRequest, SearchRequest, ShowRequest, StepRequest, asked,
@@ -39,11 +39,12 @@ use file_commands::check::carry_check;
 use file_commands::complaint::Complaint;
 use file_commands::desk::Desk;
 use file_commands::failure::{Failure, NO_REPORT, REPORTED, STOPPED, USAGE};
-use file_commands::files::{carry_races, carry_searches};
+use file_commands::files::carry_searches;
 use file_commands::settings::settings_for;
 use file_search::additions::Additions;
 use litmus_parse::FILE_BYTES;
 use litmus_step::Settings;
+use page_command::carry_all_races;
 use picture_text::Style;
 use prepared_program::step_schedule::Schedule;
 use run_output::Written;
@@ -63,8 +64,8 @@ use trace_replay::SIZE_LIMIT;
 /// doesn't suit. 65: the file is refused. 66: it can't be read. 70: a task is stuck. 71: out of memory, or a thread
 /// couldn't be started. 74: output can't be written. 75: a search was stopped, at its limit or after its seconds, and
 /// tells of no report or race. Of several files the greatest status counts. At 64 to 71 nothing goes to standard
-/// output, but for what is printed of several files, and no file is written. At 74 standard output and all files have
-/// what they had, or standard output has a beginning of what should stand there.
+/// output, but for what is printed of several files, and no file is written but a page of files that were gone over. At
+/// 74 standard output and all files have what they had, or standard output has a beginning of what should stand there.
 pub fn command<R: Threads + Wait + Sync, S: AsStr, D: Desk + Sync>(
     rt: &R,
     alloc: Global,
@@ -117,8 +118,9 @@ pub fn command<R: Threads + Wait + Sync, S: AsStr, D: Desk + Sync>(
     ensures tells { AskForOne (map S.text words.now) (λ request.
         IsToldApart request ⊎ IsToldWith request result (D.state desk.old).told (D.state desk.new).told)
         ⊎ StatusComplaint result (D.state desk.old).told (D.state desk.new).told }
-    ensures ends { AskForOne (map S.text words.now) IsOfSeveral ⊎ EndsAs result (state_in (D.state desk.old))
-        (state_in (D.state desk.new)) }
+    ensures ends { AskForOne (map S.text words.now) (λ request.
+        IsOfSeveral request ⊎ EndsFor request result (state_in (D.state desk.old)) (state_in (D.state desk.new)))
+        ⊎ EndsAs result (state_in (D.state desk.old)) (state_in (D.state desk.new)) }
 {
     match asked(alloc, words) {
         Ok(request) => carry_out(rt, alloc, &request, desk),
@@ -162,11 +164,11 @@ pub fn carry_out<R: Threads + Wait + Sync, D: Desk + Sync>(
         }
         Request::Show(request) => {
             let done = show(alloc, request, desk);
-            finish(alloc, done, None, desk)
+            finish(alloc, done, given_source(request), desk)
         }
         // These tell of each file that isn't read, and go on.
         Request::Searches(request) => carry_searches(rt, alloc, request, desk),
-        Request::Races(request) => carry_races(rt, alloc, request, desk),
+        Request::Races(request) => carry_all_races(rt, alloc, request, desk),
         Request::Check(request) => carry_check(alloc, request, desk),
         Request::Calls => {
             let done = list_calls(desk);
@@ -181,6 +183,18 @@ fn given<'a>(file: &'a str, schedule: &'a str, options: &RunOptions<'a>) -> Give
         file,
         schedule,
         places: options.places,
+    }
+}
+
+/// What `show` was given that can be at fault.
+fn given_source<'a>(request: &ShowRequest<'a>) -> Option<Given<'a>> {
+    match request.source {
+        Some(file) => Some(Given {
+            file,
+            schedule: "",
+            places: "",
+        }),
+        None => None,
     }
 }
 
@@ -428,14 +442,57 @@ fn list_calls<D: Desk>(desk: &mut D) -> Result<u8, Failure>
     }
 }
 
+/// How a trace is drawn, as it is asked for.
+fn wanted_of<D: Desk>(request: &ShowRequest<'_>, desk: &D) -> Wanted
+    ensures ascii { request.now.ascii ≡ true → result.style ≡ Ascii }
+    ensures slots { result.slots ≡ request.now.slots }
+    ensures svg { result.svg ≡ is_some request.now.svg }
+{
+    Wanted {
+        style: style_for(request, desk),
+        slots: request.slots,
+        svg: request.svg.is_some(),
+    }
+}
+
+/// Draws a trace of which nothing more is known, and gives what is left of that.
+fn show_alone<D: Desk>(
+    alloc: Global,
+    request: &ShowRequest<'_>,
+    desk: &mut D,
+) -> Result<u8, Failure>
+    requires { request.now.source ≡ None }
+    ensures { CommandEnds (Request.Show request.now) result (D.state desk.old) (D.state desk.new) }
+{
+    let bytes = desk.read_file(alloc, request.trace, SIZE_LIMIT)?;
+    let written = drawn(alloc, &bytes, wanted_of(request, &*desk))?;
+    emit(request.svg, &written, false, desk)
+}
+
+/// Draws a trace with what the litmus file of this path says of it, and gives what is left of that.
+fn show_sourced<D: Desk>(
+    alloc: Global,
+    request: &ShowRequest<'_>,
+    path: &str,
+    desk: &mut D,
+) -> Result<u8, Failure>
+    requires { option_map (λ path. path.now) request.now.source ≡ Some path.now }
+    ensures { CommandEnds (Request.Show request.now) result (D.state desk.old) (D.state desk.new) }
+{
+    let bytes = desk.read_file(alloc, request.trace, SIZE_LIMIT)?;
+    let text = desk.read_file(alloc, path, FILE_BYTES)?;
+    let written = drawn_with(alloc, &bytes, &text, wanted_of(request, &*desk))?;
+    emit(request.svg, &written, false, desk)
+}
+
 /// Draws a trace, and gives what is left of that. A report that the trace tells of doesn't count as one here.
 fn show<D: Desk>(alloc: Global, request: &ShowRequest<'_>, desk: &mut D) -> Result<u8, Failure>
     ensures { CommandEnds (Request.Show request.now) result (D.state desk.old) (D.state desk.new) }
 {
-    let bytes = desk.read_file(alloc, request.trace, SIZE_LIMIT)?;
-    let style = style_for(request, &*desk);
-    let written = drawn(alloc, &bytes, style, request.svg.is_some())?;
-    emit(request.svg, &written, false, desk)
+    match request.source {
+        Some(path) => show_sourced(alloc, request, path, desk),
+        None => show_alone(alloc, request, desk),
+    }
 }
 
 /// Help and the version go to standard output, and what is wrong with the words to standard error.

@@ -1,3 +1,4 @@
 mod Floats
-mod Free
+pub mod Free
 mod Named
+pub mod Sources

@@ -38,7 +38,7 @@ pub struct FileRaces {
 }
 
 /// What is written of what was found of a program that is made ready under these settings, whose text is read so.
-fn written(
+pub fn written(
     alloc: Global,
     name: &str,
     text: &[u8],

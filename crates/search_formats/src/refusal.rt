@@ -63,7 +63,7 @@ fn error_text(alloc: Global, error: ParseError) -> Result<Vec<u8>, AllocError>
 }
 
 /// Why a file has no output, as it is written.
-pub(crate) fn refusal_text(alloc: Global, why: Refusal) -> Result<Vec<u8>, AllocError>
+pub fn refusal_text(alloc: Global, why: Refusal) -> Result<Vec<u8>, AllocError>
     ensures { IfOk result (λ text. text.items ≡ spec.refusal_text why) }
 {
     match why {

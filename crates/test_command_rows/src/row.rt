@@ -15,8 +15,8 @@ const UNWRITABLE: u8 = 74;
 /// What standard error says then.
 const CANNOT_WRITE: &[u8] = b"kcsan_litmus: cannot write\n";
 
-/// What a picture in SVG begins with.
-const PICTURE: &[u8] = b"<svg ";
+/// What a picture in SVG, and a page, begin with.
+const MARKUP: &[u8] = b"<";
 
 /// The words, the program's name first, the files, where there are any, and what is to come of them.
 #[derive(Drop)]
@@ -173,10 +173,10 @@ fn file_of<'t>(texts: &'t Texts, name: Option<&str>) -> Option<Option<&'t [u8]>>
     }
 }
 
-/// A trace that was written is accepted. A picture is none.
+/// A trace that was written is accepted. A picture or a page is none.
 fn is_accepted<R: Threads + Wait + Sync>(rt: &R, alloc: Global, trace: Option<&[u8]>) -> bool {
     match trace {
-        Some(bytes) if !bytes.starts_with(PICTURE) => command(
+        Some(bytes) if !bytes.starts_with(MARKUP) => command(
             rt,
             alloc,
             &["kcsan_litmus", "replay", "t"],

@@ -1,7 +1,7 @@
 -- each value is that of its option
 use Rattle.std.proofs.Common.{codes, refl}
 use Rattle.clap.specs.Words.{found_of, rows_of}
-use Rattle.cli.proofs.ValueLemmas.{none_holds, not_missing}
+use Rattle.cli.proofs.ValueLemmas.{none_holds, not_missing, text_read}
 use Rattle.cli.specs.Bounds.{MayBeAsked}
 use Rattle.cli.specs.Words.{IsAskedBy}
 use Rattle.cli.proofs.request.races_request.Goals as goal
@@ -25,6 +25,7 @@ returns c = record {
       seconds = c.in_ok-number_if_given.ensures.asked;
       jobs = c.in_ok-number-2.ensures.asked;
       format = c.in_ok-format_asked.ensures.asked;
+      html = text_read (found_of c.args.races.now) (codes "html") c.get_str.result c.get_str.ensures;
       settings = c.in_ok-settings.ensures.asked;
       untraced = c.in_ok-settings.ensures.trace;
     },

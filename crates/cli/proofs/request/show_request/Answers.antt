@@ -13,9 +13,12 @@ returns c = record {
     refl,
     record {
       trace = some_read (found_of c.args.show.now) (codes "TRACE") c.get_str.result _ c.get_str.ensures c.in_ok-get_str.was;
-      svg = text_read (found_of c.args.show.now) (codes "svg") c.get_str-2.result c.get_str-2.ensures;
+      source = text_read (found_of c.args.show.now) (codes "source") c.get_str-2.result c.get_str-2.ensures;
+      svg = text_read (found_of c.args.show.now) (codes "svg") c.get_str-3.result c.get_str-3.ensures;
       ascii = flag_read (found_of c.args.show.now) (codes "ascii") c.get_flag.result c.get_flag.ensures.none c.get_flag.ensures.value
           c.get_flag.ensures.other;
+      slots = flag_read (found_of c.args.show.now) (codes "slots") c.get_flag-2.result c.get_flag-2.ensures.none c.get_flag-2.ensures.value
+          c.get_flag-2.ensures.other;
     },
   );
   complete = λ request asks. refl;

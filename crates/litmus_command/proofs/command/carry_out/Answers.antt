@@ -1,8 +1,8 @@
 -- each command ends as its status says
-use Rattle.std.proofs.Common.{subst, sym}
+use Rattle.std.proofs.Common.{List, subst, sym, ℕ}
 use Rattle.cli.specs.Bounds.{MayBeAsked}
 use Rattle.cli.specs.declared.request.Request.{Request}
-use Rattle.cli.specs.declared.request.Request.TheVariants.{Calls, Replay, Run, Search, Show, Step}
+use Rattle.cli.specs.declared.request.Request.TheVariants.{Calls, Races, Replay, Run, Search, Show, Step}
 use Rattle.litmus_command.proofs.CarryLemmas.{carried_check, carried_kept, carried_races, carried_searches}
 use Rattle.litmus_command.proofs.command.carry_out.Goals as goal
 use Rattle.file_commands.specs.Desks.{DeskState}
@@ -102,8 +102,10 @@ pub returns-in-Races : goal.returns-in-Races
 returns-in-Races g c =
     let seen = g.D.Desk.state in
     let bounds = subst (λ (request : Request). MayBeAsked request) c.in-Races.is c.requires in
-    subst (λ (request : Request). IsCarriedOut request c.carry_races.result (seen c.args.desk.now) (seen c.carry_races.new.desk)) (sym c.in-Races.is)
-    (carried_races c.in-Races.request c.carry_races.result _ _ bounds c.carry_races.ensures)
+    let kept : (path : List ℕ) → Overwrites (Races c.in-Races.request) path → ⊥ = λ path over.
+    c.in_default.ensures.other path (subst (λ (request : Request). Overwrites request path) (sym c.in-Races.is) over) in
+    subst (λ (request : Request). IsCarriedOut request c.carry_all_races.result (seen c.args.desk.now) (seen c.carry_all_races.new.desk)) (sym c.in-Races.is)
+    (carried_races c.in-Races.request c.carry_all_races.result _ _ bounds kept c.carry_all_races.ensures)
 
 pub returns-in-Searches : goal.returns-in-Searches
 returns-in-Searches g c =

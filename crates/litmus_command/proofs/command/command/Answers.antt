@@ -20,8 +20,7 @@ pub returns-in-Ok-clause-tells : goal.returns-in-Ok-clause-tells
 returns-in-Ok-clause-tells g c = inl (c.in-Ok.request, c.in-Ok.ensures.bounds, c.in-Ok.ensures.asked, c.carry_out.ensures.tells)
 
 pub returns-in-Ok-clause-ends : goal.returns-in-Ok-clause-ends
-returns-in-Ok-clause-ends g c =
-    on_left (λ several. (c.in-Ok.request, c.in-Ok.ensures.bounds, c.in-Ok.ensures.asked, several)) c.carry_out.ensures.ends
+returns-in-Ok-clause-ends g c = inl (c.in-Ok.request, c.in-Ok.ensures.bounds, c.in-Ok.ensures.asked, c.carry_out.ensures.ends)
 
 pub returns-in-Ok-clause-unreported : goal.returns-in-Ok-clause-unreported
 returns-in-Ok-clause-unreported g c = λ is.

@@ -1,17 +1,9 @@
--- the text and the SVG are those of one picture of the trace
-use Rattle.std.proofs.Common.{Some, ap, refl}
+-- what is drawn is that of the trace's picture
 use Rattle.litmus_command.proofs.show.drawn.Goals as goal
-use Rattle.litmus_command.proofs.show.drawn.Goals.{in-false, in-true+in_ok-svg_of-in-true}
 
 pub returns-clause-drawn : goal.returns-clause-drawn
-returns-clause-drawn c =
-    let picture = c.in_ok-picture.picture in
-    record {
-      picture = picture;
-      drawn = c.in_ok-picture.ensures.drawn;
-      text_is = c.in_ok-text.ensures;
-      svg_is = elim c.if-wanted.branch [
-        | in-true+in_ok-svg_of-in-true w ↦ rw w.svg-is (rw w.in-true.is (ap Some w.in_ok-svg_of-in-true.ensures))
-        | in-false w ↦ rw w.svg-is (rw w.in-false.is refl)
-      ];
-    }
+returns-clause-drawn c = record {
+  picture = c.in_ok-picture.picture;
+  drawn = c.in_ok-picture.ensures.drawn;
+  with_source = c.in_ok-written.ensures.drawn;
+}

@@ -1,0 +1,2 @@
+mod LookLemmas
+mod PageLemmas

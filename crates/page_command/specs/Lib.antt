@@ -1,0 +1,3 @@
+pub mod Told
+pub mod Looks
+pub mod Ends

@@ -1,0 +1,3 @@
+pub mod Pictures
+pub mod Results
+pub mod Told

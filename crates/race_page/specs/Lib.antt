@@ -1,0 +1,11 @@
+pub mod Counts
+pub mod Escape
+pub mod Files
+pub mod Followed
+pub mod Listing
+pub mod Marks
+pub mod Page
+pub mod Pairs
+pub mod Sites
+pub mod Tags
+pub mod Verdicts
