@@ -59,6 +59,7 @@ search_wanted request = record {
 abbrev pub search_additions : SearchesRequest → (at_terminal : Bool) → Additions
 search_additions request at_terminal = record {
   places = is_search_text (search_format_of request.format) && request.options.located;
+  deadlocks = is_search_text (search_format_of request.format);
   settings = is_search_text (search_format_of request.format) && (request.settings || at_terminal);
 }
 

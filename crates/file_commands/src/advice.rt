@@ -2,8 +2,14 @@
 
 use crate::desk::Desk;
 use crate::failure::{Failure, REFUSED};
+use crate::settings::settings;
+use cli::RunOptions;
+use deadlocks::stuck_lines;
 use diagnostics::check_output::Lines;
 use diagnostics::option_diagnostics::{place_fault, schedule_fault};
+use litmus_step::RunError;
+use prepared_program::place_list::parse_places;
+use prepared_program::step_schedule::Schedule;
 use run_output::EngineError;
 use std::alloc::{AllocError, Global};
 
@@ -16,17 +22,55 @@ pub struct Given<'a> {
     pub schedule: &'a str,
     /// The text of the place list.
     pub places: &'a str,
+    /// What `step` was asked under, if it is `step`.
+    pub stepped: Option<RunOptions<'a>>,
 }
 
 /// Where a litmus file is refused, the desk may say where and why, as `check` does, and where a list is malformed, which
-/// item of it is. Nothing is said where memory runs out.
+/// item of it is; and where a task that is stepped gets stuck, which task waits for which lock. Nothing is said where
+/// memory runs out.
 pub fn advise_given<D: Desk>(alloc: Global, failure: Failure, given: Option<Given<'_>>, desk: &D) {
     if let Some(given) = given {
         advise_check(failure, given.file, desk);
         if let Ok(Some(bytes)) = list_fault(alloc, failure, given) {
             desk.advise_item(&Lines { bytes });
         }
+        advise_stuck(alloc, failure, given, desk);
     }
+}
+
+/// Where a task that is stepped gets stuck, the desk may say which task waits for which lock.
+fn advise_stuck<D: Desk>(alloc: Global, failure: Failure, given: Given<'_>, desk: &D) {
+    let (Failure::Engine(EngineError::Run(RunError::Stuck { .. })), Some(options)) = (
+        failure,
+        given.stepped,
+    ) else {
+        return;
+    };
+    let Some(text) = desk.read_again(alloc, given.file) else {
+        return;
+    };
+    if let Ok(Some(bytes)) = stuck_fault(alloc, given, &options, &text) {
+        desk.advise_item(&Lines { bytes });
+    }
+}
+
+/// What is said of the waits for locks in the text of a file that is stepped.
+fn stuck_fault(
+    alloc: Global,
+    given: Given<'_>,
+    options: &RunOptions<'_>,
+    text: &[u8],
+) -> Result<Option<Vec<u8>>, AllocError> {
+    let Some(places) = parse_places(alloc, options.places)? else {
+        return Ok(None);
+    };
+    let settings = settings(options, places);
+    let Some(schedule) = Schedule::parse(alloc, given.schedule)? else {
+        return Ok(None);
+    };
+    let lines = stuck_lines(alloc, given.file, text, &settings, &schedule)?;
+    Ok(Some(lines))
 }
 
 /// Where a litmus file is refused, the desk may say where and why, as `check` does.

@@ -66,7 +66,11 @@ pub trait Desk: Progress + SearchProgress {
     /// complaint.
     fn advise_check(&self, file: &str);
 
-    /// Is told which item of a schedule or a place list is malformed, by a line. What it says of that is no complaint.
+    /// The bytes of a file that was read, once more, where a line that `advise_item` is told can be read by a person.
+    fn read_again(&self, alloc: Global, file: &str) -> Option<Vec<u8>>;
+
+    /// Is told which item of a schedule or a place list is malformed, by a line, or why a task is stuck. What it says of
+    /// that is no complaint.
     fn advise_item(&self, line: &Lines);
 
     /// Whether standard output is a terminal.

@@ -447,6 +447,7 @@ fn search_additions(request: &SearchesRequest<'_>, at_terminal: bool) -> Additio
     let as_text = matches!(request.format, SearchFormat::Text);
     Additions {
         places: as_text && request.options.located,
+        deadlocks: as_text,
         settings: as_text && (request.settings || at_terminal),
     }
 }

@@ -2,8 +2,9 @@
 
 ghost use Rattle.std.specs.Prelude.{◌≡◌, ◌++◌, IfOk};
 ghost use Rattle.file_search.specs.Additions as spec;
-ghost use Rattle.file_search.specs.Additions.{HasAdditions, HasPlaces};
+ghost use Rattle.file_search.specs.Additions.{HasAdditions, HasDeadlocks, HasPlaces};
 
+use deadlocks::with_deadlocks;
 use litmus_step::Settings;
 use race_output::settings_text::settings_line;
 use source_places::with_places;
@@ -14,6 +15,8 @@ use std::alloc::{AllocError, Global};
 pub struct Additions {
     /// Behind each line that names a site, where that stands in the text.
     pub places: bool,
+    /// Behind the line on deadlocks, which task waits for which lock in the first of them.
+    pub deadlocks: bool,
     /// Behind all, the line of the settings.
     pub settings: bool,
 }
@@ -33,6 +36,24 @@ fn placed(
         return Ok(output);
     }
     with_places(alloc, file, text, settings, &output)
+}
+
+/// The output of the text of a file of this name, with why no task goes on behind the line on deadlocks, if that is
+/// wanted.
+fn explained(
+    alloc: Global,
+    wanted: bool,
+    file: &str,
+    text: &[u8],
+    settings: &Settings,
+    output: Vec<u8>,
+) -> Result<Vec<u8>, AllocError>
+    ensures { IfOk result (λ found. HasDeadlocks wanted file.now text.now settings.now output.items found.items) }
+{
+    if !wanted {
+        return Ok(output);
+    }
+    with_deadlocks(alloc, file, text, settings, &output)
 }
 
 /// The output with the line of the settings behind it, if that is wanted.
@@ -64,6 +85,7 @@ pub fn with_additions(
     ensures { IfOk result (λ found. HasAdditions wanted file.now text.now settings.now output.items found.items) }
 {
     let output = placed(alloc, wanted.places, file, text, settings, output)?;
+    let output = explained(alloc, wanted.deadlocks, file, text, settings, output)?;
     let output = with_settings(alloc, wanted.settings, settings, output)?;
     Ok(output)
 }

@@ -308,6 +308,15 @@ impl Desk for System {
         }
     }
 
+    /// Gives them where standard error is a terminal.
+    fn read_again(&self, _alloc: Global, file: &str) -> Option<Vec<u8>> {
+        let rt = &self.output.rt;
+        if !rt.stderr().is_terminal() {
+            return None;
+        }
+        read_again(rt, file)
+    }
+
     /// Says so where standard error is a terminal.
     fn advise_item(&self, line: &Lines) {
         let rt = &self.output.rt;

@@ -86,11 +86,15 @@ with_trace before None trace = before
 
 -- what is printed beside what was found in runs, as it is asked for
 abbrev pub run_additions_of : RunOptions → Additions
-run_additions_of options = record { places = options.located; settings = false }
+run_additions_of options = record { places = options.located; deadlocks = false; settings = false }
 
 -- and in a search, where standard output is a terminal or not
 abbrev pub search_additions_of : SearchRequest → (at_terminal : Bool) → Additions
-search_additions_of request at_terminal = record { places = request.options.located; settings = request.settings || at_terminal }
+search_additions_of request at_terminal = record {
+  places = request.options.located;
+  deadlocks = true;
+  settings = request.settings || at_terminal;
+}
 
 -- This is left of one run of the program that a text spells, under the settings and the schedule that are asked for:
 -- whether there was a report that is printed, the output, with what is wanted beside it, and the trace, if it is asked for.

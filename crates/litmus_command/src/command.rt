@@ -145,7 +145,8 @@ pub fn carry_out<R: Threads + Wait + Sync, D: Desk + Sync>(
     match request {
         Request::Step(request) => {
             let done = step(alloc, request, desk);
-            let given = given(request.file, request.schedule, &request.options);
+            let mut given = given(request.file, request.schedule, &request.options);
+            given.stepped = Some(request.options);
             finish(alloc, done, Some(given), desk)
         }
         Request::Run(request) => {
@@ -183,6 +184,7 @@ fn given<'a>(file: &'a str, schedule: &'a str, options: &RunOptions<'a>) -> Give
         file,
         schedule,
         places: options.places,
+        stepped: None,
     }
 }
 
@@ -193,6 +195,7 @@ fn given_source<'a>(request: &ShowRequest<'a>) -> Option<Given<'a>> {
             file,
             schedule: "",
             places: "",
+            stepped: None,
         }),
         None => None,
     }
@@ -323,6 +326,7 @@ fn run_additions(options: &RunOptions<'_>) -> Additions
 {
     Additions {
         places: options.located,
+        deadlocks: false,
         settings: false,
     }
 }
@@ -333,6 +337,7 @@ fn search_additions(request: &SearchRequest<'_>, at_terminal: bool) -> Additions
 {
     Additions {
         places: request.options.located,
+        deadlocks: true,
         settings: request.settings || at_terminal,
     }
 }

@@ -1,0 +1,4 @@
+pub mod Waits
+pub mod Asked
+pub mod Lines
+pub mod Explained
