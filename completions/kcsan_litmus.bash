@@ -34,15 +34,16 @@ _kcsan_litmus() {
     return
   fi
   case $command in
-    step) options="--schedule -s --where --trace -o $settings" ;;
-    run) options="--runs -r --delay --jobs --stop-at-first --keep-going --where --trace -o $settings" ;;
+    step) options="--schedule -s --where --trace -o --color $settings" ;;
+    run) options="--runs -r --delay --jobs --stop-at-first --keep-going --where --trace -o --color $settings" ;;
     search)
-      options="--switches --limit --seconds --jobs --format --settings --where --trace -o $settings"
+      options="--switches --limit --seconds --jobs --format --settings --where --trace -o --color $settings"
       formats="text json csv herd"
       ;;
-    races) options="--limit --seconds --jobs --format --html $settings" ;;
+    races) options="--limit --seconds --jobs --format --html --color $settings" ;;
+    replay) options="--color" ;;
     show) options="--source --slots --svg -o --ascii" ;;
-    check) options="--print --calls --schedule -s --place --slots --word" ;;
+    check) options="--print --calls --color --schedule -s --place --slots --word" ;;
   esac
 
   # Of --format=json bash makes three words, and of @LIST two.
@@ -54,6 +55,7 @@ _kcsan_litmus() {
     --source) _kcsan_litmus_files '*.litmus' ;;
     --format) _kcsan_litmus_words "$formats" ;;
     --word) _kcsan_litmus_words "64 32" ;;
+    --color) _kcsan_litmus_words "auto always never" ;;
     --switches) _kcsan_litmus_words all ;;
     --value-change-only | --plain-writes-atomic | --unknown-origin) _kcsan_litmus_words "yes no" ;;
     --kconfig) _kcsan_litmus_files '*.config' '*config-*' ;;

@@ -5,6 +5,7 @@ set -l commands step run search races replay show check help
 set -l seen __fish_seen_subcommand_from
 set -l litmus "$seen step run search races check"
 set -l executing "$seen step run search races"
+set -l coloring "$seen step run search races replay check"
 
 complete -c kcsan_litmus -f
 complete -c kcsan_litmus -s h -l help -d 'Print help'
@@ -24,6 +25,8 @@ complete -c kcsan_litmus -n "$litmus" -ka '(__fish_complete_suffix .litmus)'
 complete -c kcsan_litmus -n "$seen step check" -s s -l schedule -x -d 'Order of steps, as 0x7,1x9'
 complete -c kcsan_litmus -n "$seen step run search" -l where -d 'Say where each access of a report is'
 complete -c kcsan_litmus -n "$seen step run search" -s o -l trace -rF -d 'Write the trace to this file'
+
+complete -c kcsan_litmus -n "$coloring" -l color -xa 'auto always never' -d 'Colour the text'
 
 complete -c kcsan_litmus -n "$seen run" -s r -l runs -x -d 'Number of runs'
 complete -c kcsan_litmus -n "$seen run" -l delay -x -d 'Rounds that a watchpoint waits'

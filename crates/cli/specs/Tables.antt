@@ -27,6 +27,7 @@ listed names lists.Sizes = names.sizes
 listed names lists.Formats = names.formats
 listed names lists.SearchFormats = names.search_formats
 listed names lists.Choices = names.choices
+listed names lists.Colors = names.colors
 
 -- what checks a value of a kind, if something does
 abbrev pub parser_of : Names → Kind → Option ValueParser

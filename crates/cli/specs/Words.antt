@@ -97,11 +97,15 @@ with_settings app names =
     (text_rule (codes "kconfig")))
     (name_rule (codes "word") names.sizes (codes "64"))
 
+-- when the text that is printed is coloured
+abbrev pub color_rule : Names → Rule
+color_rule names = name_rule (codes "color") names.colors (codes "auto")
+
 -- a command, also with the options that `step`, `run` and `search` all have: those settings, whether places are
--- wanted, and the trace
+-- wanted, the trace, and the colours
 unfoldable pub with_options : App → Names → App
 with_options app names =
-    with_rule (with_rule (with_settings app names) (flag_rule (codes "where"))) (short_rule 111 (text_rule (codes "trace")))
+    with_rule (with_rule (with_rule (with_settings app names) (flag_rule (codes "where"))) (short_rule 111 (text_rule (codes "trace")))) (color_rule names)
 
 -- `step`, with its file, its schedule and those options
 unfoldable pub step_app : Names → App
@@ -136,21 +140,22 @@ search_app names =
     (free_number_rule (codes "seconds") 1 1000000))
     (number_rule (codes "jobs") 1 64 (codes "1"))) names
 
--- `races`, with its files, how races are printed, the file that a page goes to, after how many states or schedules and
--- after how many seconds a search stops, how many threads share the files, and those settings
+-- `races`, with its files, how races are printed, the file that a page goes to, the colours, after how many states or
+-- schedules and after how many seconds a search stops, how many threads share the files, and those settings
 unfoldable pub races_app : Names → App
 races_app names =
-    with_settings (with_rule (with_rule (with_rule (with_rule (with_rule (with_rule (new_app (codes "races"))
+    with_settings (with_rule (with_rule (with_rule (with_rule (with_rule (with_rule (with_rule (new_app (codes "races"))
     (some_words_rule (codes "FILE")))
     (name_rule (codes "format") names.formats (codes "text")))
     (text_rule (codes "html")))
+    (color_rule names))
     (number_rule (codes "limit") 1 1000000000 (codes "1000000")))
     (free_number_rule (codes "seconds") 1 1000000))
     (number_rule (codes "jobs") 1 64 (codes "1"))) names
 
--- `replay`, with its file
-unfoldable pub replay_app : App
-replay_app = with_rule (new_app (codes "replay")) (word_rule (codes "TRACE"))
+-- `replay`, with its file and the colours
+unfoldable pub replay_app : Names → App
+replay_app names = with_rule (with_rule (new_app (codes "replay")) (word_rule (codes "TRACE"))) (color_rule names)
 
 -- `show`, with its file, the file that the trace is of, whether indices are told, the file that a picture goes to, and
 -- whether the text is drawn with ASCII alone
@@ -162,14 +167,15 @@ show_app = with_rule (with_rule (with_rule (with_rule (with_rule (new_app (codes
     (short_rule 111 (text_rule (codes "svg"))))
     (flag_rule (codes "ascii"))
 
--- `check`, with its files, whether the printed form is wanted, whether the calls that are read are, and the options by
--- which accesses have addresses and watch words
+-- `check`, with its files, whether the printed form is wanted, whether the calls that are read are, the colours, and the
+-- options by which accesses have addresses and watch words
 unfoldable pub check_app : Names → App
 check_app names =
-    with_rule (with_rule (with_rule (with_rule (with_rule (with_rule (with_rule (new_app (codes "check"))
+    with_rule (with_rule (with_rule (with_rule (with_rule (with_rule (with_rule (with_rule (new_app (codes "check"))
     (words_rule (codes "FILE")))
     (flag_rule (codes "print")))
     (flag_rule (codes "calls")))
+    (color_rule names))
     (short_rule 115 (default_rule (codes "schedule") [])))
     (default_rule (codes "place") []))
     (number_rule (codes "slots") 3 1024 (codes "64")))
@@ -180,7 +186,7 @@ unfoldable pub program_app : Names → App
 program_app names =
     with_subcommand (with_subcommand (with_subcommand (with_subcommand (with_subcommand (with_subcommand (with_subcommand
     (on_top (λ shape. record shape { has_version = true; subcommand_required = true }) (new_app (codes "kcsan_litmus")))
-    (step_app names).top) (run_app names).top) (search_app names).top) (races_app names).top) replay_app.top)
+    (step_app names).top) (run_app names).top) (search_app names).top) (races_app names).top) (replay_app names).top)
     show_app.top) (check_app names).top
 
 -- an argument goes by a rule, and is of its own command alone
@@ -198,6 +204,7 @@ pub record AreNames (names : Names) : Type 0 where
   pub formats : AreTexts names.formats (codes "text" ∷ codes "json" ∷ [])
   pub search_formats : AreTexts names.search_formats (codes "text" ∷ codes "json" ∷ codes "csv" ∷ codes "herd" ∷ [])
   pub choices : AreTexts names.choices (codes "yes" ∷ codes "no" ∷ [])
+  pub colors : AreTexts names.colors (codes "auto" ∷ codes "always" ∷ codes "never" ∷ [])
 
 -- a command is the whole program
 pub record IsProgram (command : Command) : Type 0 where

@@ -58,6 +58,8 @@ pub enum NameList {
     SearchFormats,
     /// What a setting that is on or off can be.
     Choices,
+    /// When the text that is printed is coloured.
+    Colors,
 }
 
 /// A command with the arguments of a table as well. Want of memory is passed on.
@@ -137,6 +139,7 @@ fn called(kind: Kind) -> &'static str {
         Kind::Number(_) => "N",
         Kind::Name(NameList::Sizes) => "BITS",
         Kind::Name(NameList::Choices) => "yes|no",
+        Kind::Name(NameList::Colors) => "WHEN",
         Kind::Name(_) => "FORMAT",
     }
 }
@@ -161,6 +164,7 @@ fn listed(list: NameList, names: Names) -> &'static [&'static str]
         NameList::Formats => names.formats,
         NameList::SearchFormats => names.search_formats,
         NameList::Choices => names.choices,
+        NameList::Colors => names.colors,
     }
 }
 

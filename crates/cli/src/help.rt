@@ -557,6 +557,15 @@ pub const FORMAT: Help = Help {
     full: "How the races are printed: as text, or for programs as json",
 };
 
+/// What `--color` says.
+pub const COLOR: Help = Help {
+    brief: "Colours: auto, always or never",
+    full: "\
+        Whether the text is coloured: auto, where standard output is a\n\
+        terminal, NO_COLOR is unset or empty, and TERM isn't dumb; always; or\n\
+        never",
+};
+
 /// What `--html` of `races` does.
 pub const HTML: Help = Help {
     brief: "Writes a page with texts and pictures too",

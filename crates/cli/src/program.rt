@@ -51,6 +51,9 @@ static SEARCH_FORMATS: [&str; 4] = ["text", "json", "csv", "herd"];
 /// What a setting of KCSAN that is on or off can be.
 static CHOICES: [&str; 2] = ["yes", "no"];
 
+/// When the text that is printed can be coloured.
+static COLORS: [&str; 3] = ["auto", "always", "never"];
+
 /// The heading of options that say what `step` and `run` execute.
 const RUN: &str = "Run";
 
@@ -62,6 +65,15 @@ const OUTPUT: &str = "Output";
 
 /// The heading of KCSAN's settings.
 const KCSAN: &str = "KCSAN";
+
+/// Whether the text that is printed is coloured.
+const COLOR: Entry = Entry::Value(
+    "color",
+    None,
+    Name(NameList::Colors),
+    Some("auto"),
+    help::COLOR,
+);
 
 /// The file and the options of `step` alone.
 static STEP_ENTRIES: [Entry; 3] = [
@@ -101,7 +113,7 @@ static SEARCH_ENTRIES: [Entry; 9] = [
 ];
 
 /// The files and the options of `races` alone.
-static RACES_ENTRIES: [Entry; 8] = [
+static RACES_ENTRIES: [Entry; 9] = [
     Entry::Words("FILE", Words::Several, help::FILES),
     Entry::Heading(OUTPUT),
     Entry::Value(
@@ -112,6 +124,7 @@ static RACES_ENTRIES: [Entry; 8] = [
         help::FORMAT,
     ),
     Entry::Value("html", None, Text("PATH"), None, help::HTML),
+    COLOR,
     Entry::Heading(SEARCH),
     Entry::Value(
         "limit",
@@ -124,8 +137,12 @@ static RACES_ENTRIES: [Entry; 8] = [
     Entry::Value("jobs", None, Number(JOBS), Some("1"), help::RACES_JOBS),
 ];
 
-/// The file of `replay`.
-static REPLAY_ENTRIES: [Entry; 1] = [Entry::Words("TRACE", Words::One, help::REPLAYED)];
+/// The file and the option of `replay`.
+static REPLAY_ENTRIES: [Entry; 3] = [
+    Entry::Words("TRACE", Words::One, help::REPLAYED),
+    Entry::Heading(OUTPUT),
+    COLOR,
+];
 
 /// The file and the options of `show`.
 static SHOW_ENTRIES: [Entry; 6] = [
@@ -138,11 +155,12 @@ static SHOW_ENTRIES: [Entry; 6] = [
 ];
 
 /// The files and the options of `check`.
-static CHECK_ENTRIES: [Entry; 10] = [
+static CHECK_ENTRIES: [Entry; 11] = [
     Entry::Words("FILE", Words::Any, help::FILES),
     Entry::Heading(OUTPUT),
     Entry::Flag("print", help::PRINT),
     Entry::Flag("calls", help::CALLS),
+    COLOR,
     Entry::Heading(RUN),
     Entry::Value(
         "schedule",
@@ -194,10 +212,11 @@ static SETTINGS: [Entry; 13] = [
 ];
 
 /// The options that `step`, `run` and `search` share behind these.
-static OUTPUT_OPTIONS: [Entry; 3] = [
+static OUTPUT_OPTIONS: [Entry; 4] = [
     Entry::Heading(OUTPUT),
     Entry::Flag("where", help::WHERE),
     Entry::Value("trace", Some('o'), Text("PATH"), None, help::TRACE),
+    COLOR,
 ];
 
 /// The names that options take.
@@ -211,6 +230,8 @@ pub struct Names {
     pub search_formats: &'static [&'static str],
     /// Those of a setting that is on or off.
     pub choices: &'static [&'static str],
+    /// Those of `--color`.
+    pub colors: &'static [&'static str],
 }
 
 /// The names that options take.
@@ -221,11 +242,13 @@ fn option_names() -> Names
     let formats = FORMATS.as_slice();
     let search_formats = SEARCH_FORMATS.as_slice();
     let choices = CHOICES.as_slice();
+    let colors = COLORS.as_slice();
     Names {
         sizes,
         formats,
         search_formats,
         choices,
+        colors,
     }
 }
 
@@ -310,9 +333,9 @@ fn races_command<'a>(alloc: Global, names: Names) -> Result<Command<'a>, AllocEr
     with_settings(alloc, command, names)
 }
 
-/// `replay`, with its file.
+/// `replay`, with its file and its option.
 fn replay_command<'a>(alloc: Global, names: Names) -> Result<Command<'a>, AllocError>
-    ensures { IfOk result (λ command. app_of command ≡ replay_app) }
+    ensures { IfOk result (λ command. app_of command ≡ replay_app names) }
 {
     let command = Ok(named(alloc, "replay", help::REPLAY, help::AFTER_REPLAY));
     with_entries(alloc, command, &REPLAY_ENTRIES, names)

@@ -2,12 +2,14 @@
 //! programs.
 #![tactic(auto)]
 
+mod color;
 mod locale;
 mod system;
 mod unread;
 mod whole_file;
 mod words;
 
+use color::is_colored;
 use file_commands::failure::{OUT_OF_MEMORY, UNREADABLE, USAGE};
 use litmus_command::command::command;
 use std::process::ExitCode;
@@ -16,7 +18,10 @@ use words::{WordsFault, words};
 
 fn main(rt: HostRuntime) -> ExitCode {
     let status = match words(&rt) {
-        Ok(words) => command(&rt, rt.alloc(), &words, &mut System::new(rt)),
+        Ok(words) => {
+            let mut system = System::new(rt, is_colored(&rt, &words));
+            command(&rt, rt.alloc(), &words, &mut system)
+        }
         Err(fault) => refuse(&rt, &fault),
     };
     ExitCode::from(status)

@@ -1,12 +1,13 @@
 //! The desk of the system: the process's standard output and standard error, and its files.
 
-ghost use Rattle.std.specs.Prelude.{◌≡◌, None};
+ghost use Rattle.std.specs.Prelude.{◌≡◌, None, OnErr, OnOk};
 ghost use Rattle.report_text.specs.Sink.{CountsFailure};
 
 use crate::locale;
 use crate::unread::{is_of_reading, reason_line, refusal_lines};
 use crate::whole_file::write_whole;
 use crate::words::input_path;
+use colors::colored;
 use diagnostics::check_output::Lines;
 use file_commands::complaint::Complaint;
 use file_commands::desk::{Desk, ReadFault};
@@ -85,6 +86,14 @@ impl Output {
         self.failures = self.failures.saturating_add(1);
         SinkFault
     }
+
+    /// Writes a text.
+    fn put(&mut self, text: &[u8]) -> Result<(), WriteError>
+        ensures works { OnOk result (self.new.failures ≡ self.old.failures) }
+        ensures fails { OnErr result (CountsFailure self.old.failures self.new.failures) }
+    {
+        write_all(self, text)
+    }
 }
 
 impl Sink for Output {
@@ -105,6 +114,8 @@ impl Sink for Output {
 #[derive(Drop)]
 pub struct System {
     output: Output,
+    /// Whether what is printed is coloured.
+    is_colored: bool,
     /// How often the read of a file has failed.
     faults: u64,
     /// Why files can't be read of which nothing was told so far, in the order in which they were read. None are kept
@@ -115,12 +126,13 @@ pub struct System {
 }
 
 impl System {
-    /// The desk of a process that has written nothing.
-    pub fn new(rt: HostRuntime) -> System {
+    /// The desk of a process that has written nothing, and of a text that is coloured or not.
+    pub fn new(rt: HostRuntime, is_colored: bool) -> System {
         let start = Instant::now(&rt).ok();
         let reasons = VecDeque::new(rt.alloc());
         System {
             output: Output { rt, failures: 0 },
+            is_colored,
             faults: 0,
             reasons,
             start,
@@ -256,7 +268,13 @@ impl Desk for System {
     } };
 
     fn print(&mut self, text: &[u8]) -> Result<(), WriteError> {
-        write_all(&mut self.output, text)
+        if self.is_colored {
+            // Where there is no memory for the colours, the text goes without them.
+            if let Ok(text) = colored(self.output.rt.alloc(), text) {
+                return self.output.put(&text);
+            }
+        }
+        self.output.put(text)
     }
 
     fn read_file(&mut self, alloc: Global, path: &str, limit: usize) -> Result<Vec<u8>, ReadFault> {

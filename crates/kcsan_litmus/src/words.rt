@@ -206,7 +206,7 @@ fn with_configs(rt: &HostRuntime, given: &[String]) -> Result<Vec<String>, Words
 }
 
 /// The words are of one of these commands.
-fn are_of(words: &[String], commands: &[&str]) -> bool {
+pub fn are_of(words: &[String], commands: &[&str]) -> bool {
     match words.get(1) {
         Some(command) => commands.contains(&command.as_str()),
         None => false,

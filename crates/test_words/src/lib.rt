@@ -1,5 +1,5 @@
-//! Accesses, watch words, values, boards and a kernel's configurations, tried on rows that were worked out by hand. Nothing
-//! stands on this crate.
+//! Accesses, watch words, values, boards, a kernel's configurations and coloured texts, tried on rows that were worked
+//! out by hand. Nothing stands on this crate.
 #![tactic(auto)]
 
 #[cfg(test)]
@@ -26,6 +26,8 @@ mod sites;
 mod slots;
 #[cfg(test)]
 mod stamped;
+#[cfg(test)]
+mod styles;
 #[cfg(test)]
 mod takes;
 #[cfg(test)]

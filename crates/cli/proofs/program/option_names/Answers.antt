@@ -8,4 +8,5 @@ returns c = record {
   formats = ap (map (λ name. name.now)) c.as_slice-formats.ensures;
   search_formats = ap (map (λ name. name.now)) c.as_slice-search_formats.ensures;
   choices = ap (map (λ name. name.now)) c.as_slice-choices.ensures;
+  colors = ap (map (λ name. name.now)) c.as_slice-colors.ensures;
 }

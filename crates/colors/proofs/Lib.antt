@@ -1,0 +1,2 @@
+mod ColoredLemmas
+mod EscapeLemmas

@@ -1,0 +1,2 @@
+pub mod Colored
+pub mod Escapes
