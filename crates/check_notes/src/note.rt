@@ -46,6 +46,22 @@ fn wait_note() -> &'static str
     "note: a wait has a number of tries: `for (i = 0; i < 3; i++) if (!r0) r0 = READ_ONCE(*x);`\n"
 }
 
+/// That `~` is what says that something isn't so.
+#[tactic(auto, unfolding(crate::specs::Notes::tilde_note))]
+fn tilde_note() -> &'static str
+    ensures { result.now ≡ spec.tilde_note }
+{
+    "note: in the condition `~` stands before what isn't so, as `~0:r0=1`\n"
+}
+
+/// A field has no name of its own here.
+#[tactic(auto, unfolding(crate::specs::Notes::field_note))]
+fn field_note() -> &'static str
+    ensures { result.now ≡ spec.field_note }
+{
+    "note: a field is a variable of its own, as `int *x`\n"
+}
+
 /// How a sequence count is written.
 #[tactic(auto, unfolding(crate::specs::Notes::sequence_note))]
 fn sequence_note() -> &'static str
@@ -112,12 +128,44 @@ fn has_eight_bytes(word: &[u8]) -> bool
         || word == b"ssize_t".as_slice()
 }
 
+/// A type that the kernel has, whose variables are locks.
+#[tactic(auto, unfolding(crate::specs::Notes::is_lock_type))]
+fn is_lock_type(word: &[u8]) -> bool
+    ensures { result ≡ spec.is_lock_type word.now }
+{
+    word == b"raw_spinlock_t".as_slice() || word == b"rwlock_t".as_slice()
+}
+
+/// A type that the kernel has, whose variables are sequence counts.
+#[tactic(auto, unfolding(crate::specs::Notes::is_sequence_type))]
+fn is_sequence_type(word: &[u8]) -> bool
+    ensures { result ≡ spec.is_sequence_type word.now }
+{
+    word.starts_with(b"seqcount_") || word == b"seqlock_t".as_slice()
+}
+
+/// A type that the kernel has, whose variables are atomic.
+#[tactic(auto, unfolding(crate::specs::Notes::is_atomic_type))]
+fn is_atomic_type(word: &[u8]) -> bool
+    ensures { result ≡ spec.is_atomic_type word.now }
+{
+    word == b"atomic64_t".as_slice()
+        || word == b"atomic_long_t".as_slice()
+        || word == b"refcount_t".as_slice()
+}
+
 /// A type that the kernel has.
 #[tactic(auto, unfolding(crate::specs::Notes::is_type))]
 fn is_type(word: &[u8]) -> bool
     ensures { result ≡ spec.is_type word.now }
 {
-    has_one_byte(word) || has_two_bytes(word) || has_four_bytes(word) || has_eight_bytes(word)
+    has_one_byte(word)
+        || has_two_bytes(word)
+        || has_four_bytes(word)
+        || has_eight_bytes(word)
+        || is_lock_type(word)
+        || is_sequence_type(word)
+        || is_atomic_type(word)
 }
 
 /// Which type is read in the place of a word that is a type of the kernel.
@@ -136,6 +184,15 @@ fn type_note(word: &[u8]) -> &'static str
     }
     if has_eight_bytes(word) {
         return "note: the type of 8 bytes is `long`, with a sign\n";
+    }
+    if is_lock_type(word) {
+        return "note: a lock is a `spinlock_t`\n";
+    }
+    if is_sequence_type(word) {
+        return sequence_note();
+    }
+    if is_atomic_type(word) {
+        return "note: an atomic variable is an `atomic_t`, of 4 bytes\n";
     }
     ""
 }
@@ -192,6 +249,9 @@ fn behind_number(token: &[u8]) -> &'static str
     if token == b"||".as_slice() {
         return "note: in the condition it is `\\/`\n";
     }
+    if token == b"-".as_slice() {
+        return "note: write the number itself, as 0x1; in the condition `~p \\/ q` for `p -> q`\n";
+    }
     if is_operator(token) {
         return number_note();
     }
@@ -209,11 +269,17 @@ fn register_note(token: &[u8]) -> &'static str
     if token == b":".as_slice() {
         return jump_note();
     }
+    if token == b"-".as_slice() {
+        return "note: write `r0 = r0 - 1`; a field `p->f` is a variable of its own, as `*f`\n";
+    }
     if is_operator(token) || token == b"+=".as_slice() {
         return "note: a register is assigned by `=` alone, as `r0 = r0 | 1`\n";
     }
+    if token == b"==".as_slice() {
+        return "note: it is one `=`, as `exists (0:r0=1)`\n";
+    }
     if token == b"!=".as_slice() {
-        return "note: in the condition `~` stands before what isn't so, as `~0:r0=1`\n";
+        return tilde_note();
     }
     ""
 }
@@ -225,6 +291,9 @@ fn statement_note(token: &[u8]) -> &'static str
 {
     if token == b"-".as_slice() {
         return "note: for `-=` and `--` write `*x += -1`\n";
+    }
+    if token == b",".as_slice() {
+        return "note: a declaration gives one value: `int r0 = 1; int r1 = 2;`\n";
     }
     if is_operator(token) {
         return "note: with an operator there is `+=` alone, which is one access as `|=` is; `r0 = *x | 1; *x = r0;` is two\n";
@@ -256,6 +325,18 @@ fn unstarred_note(token: &[u8]) -> &'static str
     }
 }
 
+/// Behind a variable in parentheses.
+#[tactic(auto, unfolding(crate::specs::Notes::closing_note))]
+fn closing_note(token: &[u8]) -> &'static str
+    ensures { result.now ≡ spec.closing_note token.now }
+{
+    if token == b"-".as_slice() {
+        field_note()
+    } else {
+        ""
+    }
+}
+
 /// What to write where this sign is expected.
 #[tactic(auto, unfolding(crate::specs::Notes::sign_note))]
 fn sign_note(sign: Sign, token: &[u8]) -> &'static str
@@ -266,6 +347,7 @@ fn sign_note(sign: Sign, token: &[u8]) -> &'static str
         Sign::Semicolon => statement_note(token),
         Sign::Increment => increment_note(token),
         Sign::Star => unstarred_note(token),
+        Sign::CloseParen => closing_note(token),
         _ => "",
     }
 }
@@ -292,12 +374,6 @@ fn parameter_note(token: &[u8]) -> &'static str
     }
     if token == b"void".as_slice() {
         return "note: a process without variables begins with `P0()`\n";
-    }
-    if token == b"raw_spinlock_t".as_slice() {
-        return "note: a lock is a `spinlock_t`\n";
-    }
-    if token.starts_with(b"seqcount_") || token == b"seqlock_t".as_slice() {
-        return sequence_note();
     }
     type_note(token)
 }
@@ -353,7 +429,37 @@ fn token_note(expected: Expected, token: &[u8], before: &[u8]) -> &'static str
     if token == b"true".as_slice() || token == b"false".as_slice() {
         return "note: write 1 for `true`, and 0 for `false`\n";
     }
+    if token == b"[".as_slice() {
+        return "note: there are no arrays: each element is a variable of its own, as `int *x0`\n";
+    }
     place_note(expected, token)
+}
+
+/// In the place of a variable that the process, or of one that the text, doesn't have.
+#[tactic(auto, unfolding(crate::specs::Notes::unknown_note))]
+fn unknown_note(expected: Expected, token: &[u8]) -> &'static str
+    ensures { result.now ≡ spec.unknown_note expected token.now }
+{
+    match expected {
+        Expected::Variable if token == b"not".as_slice() => tilde_note(),
+        Expected::Variable =>
+            "note: a register stands behind its process, as `0:r0`; a variable is an item, as `{ int x; }`, or a parameter\n",
+        _ => "note: a process has its variables as parameters, as in `P0(int *x)`\n",
+    }
+}
+
+/// In the place of a sign that begins no token.
+#[tactic(auto, unfolding(crate::specs::Notes::stray_note))]
+fn stray_note(token: &[u8]) -> &'static str
+    ensures { result.now ≡ spec.stray_note token.now }
+{
+    if token == b"#".as_slice() {
+        return "note: no macro is read: write in its place what it stands for\n";
+    }
+    if token == b".".as_slice() {
+        return field_note();
+    }
+    ""
 }
 
 /// What to write where a text has this fault.
@@ -365,7 +471,8 @@ fn fault_note(fault: Fault, expected: Expected, token: &[u8], before: &[u8]) -> 
         Fault::Token => token_note(expected, token, before),
         Fault::Variable =>
             "note: its memory is read and written as `*x`, or by a call, as `WRITE_ONCE(*x, 1)`\n",
-        Fault::Unknown => "note: a process has its variables as parameters, as in `P0(int *x)`\n",
+        Fault::Unknown => unknown_note(expected, token),
+        Fault::Stray => stray_note(token),
         _ => "",
     }
 }
@@ -379,6 +486,20 @@ fn is_of_rcu(name: &[u8]) -> bool
         || name.starts_with(b"srcu_")
         || name.starts_with(b"synchronize_")
         || name == b"smp_mb__after_srcu_read_unlock".as_slice()
+}
+
+/// The line on a call of RCU.
+#[tactic(auto, unfolding(crate::specs::Notes::rcu_why))]
+fn rcu_why(name: &[u8]) -> &'static str
+    ensures { result.now ≡ spec.rcu_why name.now }
+{
+    if name.starts_with(b"rcu_assign_pointer") {
+        return "note: write `smp_store_release(x, 1)`, of an `int`\n";
+    }
+    if name.starts_with(b"rcu_dereference") {
+        return "note: write `READ_ONCE(*x)`, of an `int`\n";
+    }
+    "note: there is no RCU here, and nothing waits for readers: leave the call out\n"
 }
 
 /// A call of a lock.
@@ -404,13 +525,21 @@ fn is_of_interrupts(name: &[u8]) -> bool
         || name.starts_with(b"spin_unlock_bh")
 }
 
+/// The calls that an atomic variable has.
+#[tactic(auto, unfolding(crate::specs::Notes::atomic_note))]
+fn atomic_note() -> &'static str
+    ensures { result.now ≡ spec.atomic_note }
+{
+    "note: an `atomic_t` has atomic_read, atomic_set, atomic_add, atomic_inc and atomic_dec; other changes are `cmpxchg` of an `int`\n"
+}
+
 /// The line on a call of a lock.
 #[tactic(auto, unfolding(crate::specs::Notes::lock_why))]
 fn lock_why(name: &[u8]) -> &'static str
     ensures { result.now ≡ spec.lock_why name.now }
 {
     if name == b"spin_trylock".as_slice() || name == b"spin_is_locked".as_slice() {
-        return "note: no value comes of a lock here\n";
+        return "note: no value comes of a lock: of an `int *l` write `r0 = cmpxchg(l, 0, 1)`\n";
     }
     if name.starts_with(b"mutex_") {
         return "note: a mutex is written as a spinlock_t, with `spin_lock` and `spin_unlock`\n";
@@ -431,6 +560,23 @@ fn has_no_effect(name: &[u8]) -> bool
         || name.starts_with(b"local_irq_")
         || name.starts_with(b"local_bh_")
         || name.starts_with(b"preempt_")
+        || name == b"mb".as_slice()
+        || name == b"rmb".as_slice()
+        || name == b"wmb".as_slice()
+}
+
+/// A call that waits some time, or that prints.
+#[tactic(auto, unfolding(crate::specs::Notes::is_aside))]
+fn is_aside(name: &[u8]) -> bool
+    ensures { result ≡ spec.is_aside name.now }
+{
+    name == b"cond_resched".as_slice()
+        || name == b"udelay".as_slice()
+        || name == b"msleep".as_slice()
+        || name == b"schedule".as_slice()
+        || name == b"printk".as_slice()
+        || name == b"printf".as_slice()
+        || name.starts_with(b"pr_")
 }
 
 /// A call that gives a number before the program runs.
@@ -455,7 +601,7 @@ fn is_of_sequence(name: &[u8]) -> bool
         || name.starts_with(b"raw_write_seq")
 }
 
-/// A call that changes a bit of a word at once.
+/// A call that changes a bit of a word by one marked access.
 #[tactic(auto, unfolding(crate::specs::Notes::changes_bit))]
 fn changes_bit(name: &[u8]) -> bool
     ensures { result ≡ spec.changes_bit name.now }
@@ -463,7 +609,44 @@ fn changes_bit(name: &[u8]) -> bool
     name == b"set_bit".as_slice()
         || name == b"clear_bit".as_slice()
         || name == b"change_bit".as_slice()
-        || name.starts_with(b"test_and_")
+}
+
+/// A call that changes a bit of a word by one plain access.
+#[tactic(auto, unfolding(crate::specs::Notes::changes_bit_plainly))]
+fn changes_bit_plainly(name: &[u8]) -> bool
+    ensures { result ≡ spec.changes_bit_plainly name.now }
+{
+    name == b"__set_bit".as_slice()
+        || name == b"__clear_bit".as_slice()
+        || name == b"__change_bit".as_slice()
+}
+
+/// The line on a call that has to do with a bit of a word.
+#[tactic(auto, unfolding(crate::specs::Notes::bit_why))]
+fn bit_why(name: &[u8]) -> &'static str
+    ensures { result.now ≡ spec.bit_why name.now }
+{
+    if name == b"test_bit".as_slice() {
+        return "note: write `READ_ONCE(*x) & 2`\n";
+    }
+    if changes_bit(name) {
+        return "note: of an `atomic_t` `atomic_add(2, f)` sets a bit that is clear, and `atomic_add(-2, f)` clears one that is set\n";
+    }
+    if changes_bit_plainly(name) {
+        return "note: `*x += 2` sets a bit that is clear by one plain access, and `*x += -2` clears one that is set\n";
+    }
+    if name.starts_with(b"test_and_") {
+        return "note: of an `int` that is this bit alone write `r0 = xchg(x, 1)` to set it, and `xchg(x, 0)` to clear it\n";
+    }
+    ""
+}
+
+/// A call whose value is that of its argument.
+#[tactic(auto, unfolding(crate::specs::Notes::is_transparent))]
+fn is_transparent(name: &[u8]) -> bool
+    ensures { result ≡ spec.is_transparent name.now }
+{
+    name == b"likely".as_slice() || name == b"unlikely".as_slice()
 }
 
 /// A call that stops the kernel, or warns, where something isn't so.
@@ -482,19 +665,19 @@ fn made_of_others(name: &[u8]) -> &'static str
     if is_of_sequence(name) {
         return sequence_note();
     }
-    if name == b"test_bit".as_slice() {
-        return "note: write `READ_ONCE(*x) & 2`\n";
-    }
-    if changes_bit(name) {
-        return "note: a bit is changed by `cmpxchg` of its word\n";
-    }
-    if name.starts_with(b"smp_cond_load_") {
+    if name.starts_with(b"smp_cond_load_") || name.starts_with(b"wait_") {
         return wait_note();
     }
     if asserts(name) {
         return "note: what may come is asked by the condition, as `exists (1:r0=1)`\n";
     }
-    ""
+    if is_transparent(name) {
+        return "note: write what its parentheses have\n";
+    }
+    if name == b"switch".as_slice() {
+        return "note: write `if` and `else`\n";
+    }
+    bit_why(name)
 }
 
 /// The line that says why a call isn't read that the kernel's format or C has.
@@ -503,22 +686,22 @@ fn call_why(name: &[u8]) -> &'static str
     ensures { result.now ≡ spec.call_why name.now }
 {
     if is_of_rcu(name) {
-        return "note: RCU needs a memory model\n";
+        return rcu_why(name);
     }
     if is_of_lock(name) {
         return lock_why(name);
     }
-    if name.starts_with(b"atomic_") {
-        return "note: of an atomic_t only some operations are read\n";
+    if name.starts_with(b"atomic") || name.starts_with(b"refcount_") {
+        return atomic_note();
     }
     if name.starts_with(b"xchg_") || name.starts_with(b"cmpxchg_") {
-        return "note: it is read without an order in its name\n";
+        return "note: write `xchg(x, 1)` or `cmpxchg(x, 0, 1)`, with no order in the name\n";
     }
-    if has_no_effect(name) {
+    if has_no_effect(name) || is_aside(name) {
         return "note: it changes nothing here: leave it out\n";
     }
     if name == b"smp_store_mb".as_slice() {
-        return "note: `WRITE_ONCE` and `smp_mb` are read\n";
+        return "note: write `WRITE_ONCE(*x, 1); smp_mb();`\n";
     }
     if is_of_number(name) {
         return number_note();
@@ -535,9 +718,9 @@ fn section_why(name: &[u8]) -> &'static str
     ensures { result.now ≡ spec.section_why name.now }
 {
     if name.starts_with(b"locations") {
-        "note: it changes nothing here\n"
+        "note: it changes nothing here: leave it out\n"
     } else {
-        "note: no run is left out here\n"
+        "note: no run is left out here: leave it out\n"
     }
 }
 
@@ -562,7 +745,7 @@ fn word_why(word: &[u8]) -> &'static str
         return "note: each type has a sign: char, short, int and long\n";
     }
     if word == b"struct".as_slice() {
-        return "note: a field is a variable of its own, as `int *x`\n";
+        return field_note();
     }
     if word == b"volatile".as_slice() {
         return "note: an access is marked itself, as `READ_ONCE(*x)`\n";
@@ -580,6 +763,15 @@ fn operator_why(sign: &[u8]) -> &'static str
     }
     if sign == b"||".as_slice() {
         return "note: comparisons are joined by `|`, as `(r0 == 1) | (r1 == 2)`\n";
+    }
+    if sign == b"?".as_slice() {
+        return "note: write `if (r0) r1 = 1; else r1 = 2;`\n";
+    }
+    if sign == b"<<".as_slice() {
+        return "note: write `r0 * 4` for `r0 << 2`, and the number itself for `1 << 2`\n";
+    }
+    if sign == b">>".as_slice() {
+        return "note: a bit is tested by `r0 & 4`\n";
     }
     ""
 }
@@ -599,6 +791,20 @@ fn address_why(expected: Expected) -> &'static str
     }
 }
 
+/// The line on a variable of another type than this that is expected.
+#[tactic(auto, unfolding(crate::specs::Notes::type_why))]
+fn type_why(expected: Expected) -> &'static str
+    ensures { result.now ≡ spec.type_why expected }
+{
+    match expected {
+        Expected::IntegerVariable =>
+            "note: an `atomic_t` is accessed by calls, as `atomic_read(f)` and `atomic_add(1, f)`\n",
+        Expected::AtomicVariable => "note: an atomic variable is an `atomic_t *f`\n",
+        Expected::LockVariable => "note: a lock is a `spinlock_t *l`\n",
+        _ => "",
+    }
+}
+
 /// The line that says why this isn't read, where the kernel's format or C has it.
 #[tactic(auto, unfolding(crate::specs::Notes::why))]
 fn why(unread: Unread, expected: Expected, token: &[u8]) -> &'static str
@@ -611,6 +817,13 @@ fn why(unread: Unread, expected: Expected, token: &[u8]) -> &'static str
         Unread::Type => word_why(token),
         Unread::Operator => operator_why(token),
         Unread::Address => address_why(expected),
+        Unread::Load => "note: load into a register first, as `r0 = *x;`\n",
+        Unread::OtherType => type_why(expected),
+        Unread::Pointer =>
+            "note: a variable is `int x` as an item and `int *x` as a parameter; a register is `int r0`\n",
+        Unread::Label => "note: a process gives it a value, as `r0 = 1;`\n",
+        Unread::LockValue => "note: an item `spinlock_t l` has no value, and the condition no lock\n",
+        Unread::Counter => jump_note(),
         _ => "",
     }
 }
