@@ -1,7 +1,7 @@
 //! What is drawn of a trace that is accepted.
 
 ghost use Rattle.std.specs.Global.{Global as Heap};
-ghost use Rattle.std.specs.Prelude.{◌≡◌, ◌⊎◌, [], IfErr, IfOk, None, Some, Vec, false};
+ghost use Rattle.std.specs.Prelude.{◌≡◌, ◌⊎◌, IfErr, IfOk, None, Some, Vec, false};
 ghost use Rattle.std.specs.Option.{option_map};
 ghost use Rattle.litmus_command.specs.Show.{IsDrawn, IsDrawnBy, IsNotDrawn, IsPictureDrawn, IsUnsuited};
 ghost use Rattle.litmus_syntax.specs.Limits.{KeepsLimits};
@@ -10,14 +10,13 @@ ghost use Rattle.picture_source.specs.Source.{AreLabelsIn};
 ghost use Rattle.picture_text.specs.Text.{detailed_picture};
 ghost use Rattle.timeline.specs.picture.Drawn.{IsUndrawn};
 ghost use Rattle.timeline.specs.picture.Ordered.{IsOrdered};
-ghost use Rattle.picture_svg.specs.Svg.{captioned_svg};
 ghost use Rattle.timeline.specs.declared.picture.labels.Label as label;
 ghost use Rattle.file_commands.specs.declared.failure.Failure.TheVariants as failures;
 
 use file_commands::failure::Failure;
 use litmus_parse::{Reading, read_text};
 use picture_source::{labels_of, test_of};
-use picture_svg::{Captions, write_captioned_svg};
+use picture_svg::svg_bytes;
 use picture_text::{Details, Style, write_detailed_picture};
 use report_text::MemorySink;
 use run_output::{EngineError, Written};
@@ -53,28 +52,6 @@ fn text_of(
     }
 }
 
-/// The picture as SVG.
-fn svg_of(
-    alloc: Global,
-    picture: &Picture,
-    test: &[u8],
-    labels: &[Label<'_>],
-) -> Result<Vec<u8>, AllocError>
-    requires { IsOrdered picture.now }
-    ensures { IfOk result (λ svg. svg.items ≡ captioned_svg picture.now test.now [] labels.now) }
-{
-    let mut sink = MemorySink::new(alloc);
-    let captions = Captions {
-        test,
-        settings: &[],
-        labels,
-    };
-    match write_captioned_svg(picture, captions, &mut sink) {
-        Ok(()) => Ok(sink.into_bytes()),
-        Err(_) => Err(AllocError),
-    }
-}
-
 /// Draws a picture, with the name of its test, and with what is known of sites: as text, and where that is wanted as SVG
 /// too, which stands in place of a run's trace.
 fn drawn_picture(
@@ -91,7 +68,7 @@ fn drawn_picture(
 {
     let text = text_of(alloc, picture, labels, wanted)?;
     let svg = match wanted.svg {
-        true => Some(svg_of(alloc, picture, test, labels)?),
+        true => Some(svg_bytes(alloc, picture, test, labels)?),
         false => None,
     };
     Ok(Written {

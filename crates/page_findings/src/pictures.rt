@@ -1,7 +1,7 @@
 //! The picture of the execution that a schedule gives.
 
 ghost use Rattle.std.specs.Global.{Global as Heap};
-ghost use Rattle.std.specs.Prelude.{◌≡◌, [], IfOk, IfSome, Option, Vec};
+ghost use Rattle.std.specs.Prelude.{◌≡◌, IfOk, IfSome, Option, Vec};
 ghost use Rattle.litmus_step.specs.Runs.{run_of};
 ghost use Rattle.litmus_syntax.specs.Limits.{KeepsLimits};
 ghost use Rattle.litmus_syntax.specs.Views.{program_of};
@@ -10,17 +10,15 @@ ghost use Rattle.page_findings.specs.Pictures.{IsPictureBy, IsSvgOf, IsTraceBy, 
 ghost use Rattle.prepared_program.specs.program_sites.Prepared.{IsPrepared, sites_in};
 ghost use Rattle.prepared_program.specs.step_schedule.Schedule.{entries_of};
 ghost use Rattle.timeline.specs.picture.Ordered.{IsOrdered};
-ghost use Rattle.picture_svg.specs.Svg.{captioned_svg};
 
 use litmus_parse::Reading;
 use litmus_step::{Settings, World};
 use litmus_syntax::Program;
 use output_pieces::values::schedule_bytes;
 use picture_source::{labels_of, test_of};
-use picture_svg::{Captions, write_captioned_svg};
+use picture_svg::svg_bytes;
 use prepared_program::program_sites::Prepared;
 use prepared_program::step_schedule::{Entry, Schedule};
-use report_text::MemorySink;
 use run_output::trace_of;
 use schedule_search::laws::law_schedules_lead_to_their_lists;
 use std::alloc::{AllocError, Global};
@@ -80,28 +78,6 @@ fn labels_in<'a, 'b>(found: &'b Option<Vec<Label<'a>>>) -> &'b [Label<'a>]
     }
 }
 
-/// A picture as SVG, with the name of its test, and with what is known of sites.
-fn svg_with(
-    alloc: Global,
-    picture: &Picture,
-    test: &[u8],
-    labels: &[Label<'_>],
-) -> Result<Vec<u8>, AllocError>
-    requires { IsOrdered picture.now }
-    ensures { IfOk result (λ svg. svg.items ≡ captioned_svg picture.now test.now [] labels.now) }
-{
-    let mut sink = MemorySink::new(alloc);
-    let captions = Captions {
-        test,
-        settings: &[],
-        labels,
-    };
-    match write_captioned_svg(picture, captions, &mut sink) {
-        Ok(()) => Ok(sink.into_bytes()),
-        Err(_) => Err(AllocError),
-    }
-}
-
 /// A picture as SVG, with the name of the test, and with what the text of its program says of the sites, where the
 /// accesses can be those of the program.
 fn labelled_svg(
@@ -116,7 +92,7 @@ fn labelled_svg(
 {
     let found = labels_of(alloc, text, reading, &picture.rows)?;
     let test = test_of(&reading.program);
-    let svg = svg_with(alloc, picture, test, labels_in(&found))?;
+    let svg = svg_bytes(alloc, picture, test, labels_in(&found))?;
     Ok(svg)
 }
 

@@ -13,4 +13,4 @@ mod watches;
 mod write;
 
 pub use captions::Captions;
-pub use write::{write_captioned_svg, write_svg};
+pub use write::{svg_bytes, write_captioned_svg, write_svg};

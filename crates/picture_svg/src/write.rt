@@ -1,6 +1,6 @@
 //! A picture, as a file in SVG.
 
-ghost use Rattle.std.specs.Prelude.{◌≡◌, ◌≤◌};
+ghost use Rattle.std.specs.Prelude.{◌≡◌, ◌≤◌, [], IfOk};
 ghost use Rattle.std.specs.List.{flat_map};
 ghost use Rattle.report_text.specs.Pieces.{text_of};
 ghost use Rattle.report_text.specs.Sink.{Writes};
@@ -14,7 +14,9 @@ use crate::lines::row_top;
 use crate::marks::write_rows;
 use crate::watches::{write_takings, write_watches};
 use report_text::pieces::{Piece, write_pieces};
-use report_text::{Sink, WriteError, write_all};
+use report_text::{MemorySink, Sink, WriteError, write_all};
+use std::alloc::{AllocError, Global};
+use timeline::picture::labels::Label;
 use timeline::picture::{Column, Picture};
 
 /// How everything looks, in light and in dark; the tip of an arrow; and the page behind all.
@@ -188,4 +190,27 @@ pub fn write_svg<K: Sink>(picture: &Picture, sink: &mut K) -> Result<(), WriteEr
         labels: &[],
     };
     write_captioned_svg(picture, nothing, sink)
+}
+
+/// The picture as one file in SVG, as `write_captioned_svg` writes it, with the name of its test and with what is known
+/// of sites. The only error is want of memory.
+pub fn svg_bytes(
+    alloc: Global,
+    picture: &Picture,
+    test: &[u8],
+    labels: &[Label<'_>],
+) -> Result<Vec<u8>, AllocError>
+    requires { IsOrdered picture.now }
+    ensures { IfOk result (λ svg. svg.items ≡ spec.captioned_svg picture.now test.now [] labels.now) }
+{
+    let mut sink = MemorySink::new(alloc);
+    let captions = Captions {
+        test,
+        settings: &[],
+        labels,
+    };
+    match write_captioned_svg(picture, captions, &mut sink) {
+        Ok(()) => Ok(sink.into_bytes()),
+        Err(_) => Err(AllocError),
+    }
 }
