@@ -5,10 +5,10 @@ ghost use Rattle.cli.specs.Tables.{listed, parser_of, with_default, with_entries
 ghost use Rattle.cli.specs.Words.{IsArg, text_rule};
 ghost use Rattle.clap.specs.Words.{App, Rule, app_of, new_rule};
 
-use crate::help::Help;
 use crate::program::Names;
 use clap::builder::ValueParser;
 use clap::{Arg, ArgAction, Command};
+use cli_help::Help;
 use std::alloc::{AllocError, Global};
 
 /// An entry of a command's table.

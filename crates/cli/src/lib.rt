@@ -2,7 +2,6 @@
 #![tactic(auto)]
 
 pub mod arguments;
-pub mod help;
 pub mod program;
 pub mod request;
 pub mod version;

@@ -7,9 +7,9 @@ ghost use Rattle.clap.specs.Words.{App, app_of, new_app, with_subcommand};
 
 use crate::arguments::Kind::{Name, Number, Text};
 use crate::arguments::{Entry, NameList, Words, with_entries};
-use crate::help;
 use crate::version::VERSION;
 use clap::Command;
+use cli_help as help;
 use std::alloc::{AllocError, Global};
 
 /// The fewest and the most runs.

@@ -4,7 +4,7 @@ use crate::desk::Desk;
 use crate::failure::{Failure, REFUSED};
 use crate::settings::settings;
 use cli::RunOptions;
-use deadlocks::stuck_lines;
+use source_places::deadlocks::stuck_lines;
 use diagnostics::check_output::Lines;
 use diagnostics::option_diagnostics::{place_fault, schedule_fault};
 use litmus_step::RunError;

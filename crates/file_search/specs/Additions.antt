@@ -1,6 +1,6 @@
 -- What is printed of a litmus text beside what was found of it.
 use Rattle.std.specs.Prelude.{◌≡◌, ◌++◌, [], ℕ, Bool, List, false, if◌then◌else◌, true}
-use Rattle.deadlocks.specs.Explained.{IsExplained}
+use Rattle.source_places.specs.deadlocks.Explained.{IsExplained}
 use Rattle.file_search.specs.declared.additions.Additions.{Additions}
 use Rattle.prepared_program.specs.declared.program_sites.settings.Settings.{Settings}
 use Rattle.race_output.specs.Settings.{settings_line}

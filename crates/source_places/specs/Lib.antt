@@ -1,3 +1,4 @@
 pub mod Lines
 pub mod Sites
 pub mod Located
+pub mod deadlocks

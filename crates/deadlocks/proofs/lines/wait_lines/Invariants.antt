@@ -1,8 +1,0 @@
--- The lines on the waits so far.
-use Rattle.std.proofs.Common.{take}
-use Rattle.deadlocks.proofs.lines.wait_lines.Given as goal
-use Rattle.deadlocks.specs.Lines.{AreWaitLines}
-
-abbrev pub invariant-loop-wait : goal.invariant-loop-wait
-invariant-loop-wait l =
-    AreWaitLines l.sources.variables.now l.sources.file.now l.sources.text.now (take l.wait-index l.waits) l.text.items

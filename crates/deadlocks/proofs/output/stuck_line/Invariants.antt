@@ -1,7 +1,0 @@
--- No such line begins before.
-use Rattle.std.proofs.Common.{◌≡◌, ◌<◌, ℕ, false}
-use Rattle.deadlocks.specs.Explained as spec
-use Rattle.deadlocks.proofs.output.stuck_line.Given as goal
-
-abbrev pub invariant-loop-start : goal.invariant-loop-start
-invariant-loop-start l = (at : ℕ) → at < l.start → spec.begins_stuck l.output at ≡ false

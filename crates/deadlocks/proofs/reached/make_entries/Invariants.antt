@@ -1,8 +1,0 @@
--- So far the tasks were asked as the entries before this one say.
-use Rattle.std.proofs.Common.{take}
-use Rattle.deadlocks.proofs.reached.make_entries.Given as goal
-use Rattle.deadlocks.specs.Asked.{Asks}
-use Rattle.prepared_program.specs.step_schedule.Order.{asked_by}
-
-abbrev pub invariant-loop-entry : goal.invariant-loop-entry
-invariant-loop-entry l = Asks (asked_by (take l.entry-index l.entries)) l.fn.world l.world

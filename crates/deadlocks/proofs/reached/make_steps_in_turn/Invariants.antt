@@ -1,9 +1,0 @@
--- So far tasks were asked.
-use Rattle.deadlocks.proofs.reached.make_steps_in_turn.Given as goal
-use Rattle.deadlocks.specs.Asked.{AsksSome}
-
-abbrev pub invariant-loop-entry : goal.invariant-loop-entry
-invariant-loop-entry l = AsksSome l.fn.world l.world
-
-abbrev pub invariant-loop-round : goal.invariant-loop-round
-invariant-loop-round l = AsksSome l.fn.world l.world

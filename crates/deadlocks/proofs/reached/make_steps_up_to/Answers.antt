@@ -1,5 +1,0 @@
--- The task is asked.
-use Rattle.deadlocks.proofs.reached.make_steps_up_to.Goals as goal
-
-pub returns : goal.returns
-returns c = (_, c.make_steps.ensures)
