@@ -822,7 +822,8 @@ fn why(unread: Unread, expected: Expected, token: &[u8]) -> &'static str
         Unread::Pointer =>
             "note: a variable is `int x` as an item and `int *x` as a parameter; a register is `int r0`\n",
         Unread::Label => "note: a process gives it a value, as `r0 = 1;`\n",
-        Unread::LockValue => "note: an item `spinlock_t l` has no value, and the condition no lock\n",
+        Unread::LockValue =>
+            "note: an item `spinlock_t l` has no value, and the condition no lock\n",
         Unread::Counter => jump_note(),
         _ => "",
     }

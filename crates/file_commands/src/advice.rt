@@ -4,13 +4,13 @@ use crate::desk::Desk;
 use crate::failure::{Failure, REFUSED};
 use crate::settings::settings;
 use cli::RunOptions;
-use source_places::deadlocks::stuck_lines;
 use diagnostics::check_output::Lines;
 use diagnostics::option_diagnostics::{place_fault, schedule_fault};
 use litmus_step::RunError;
 use prepared_program::place_list::parse_places;
 use prepared_program::step_schedule::Schedule;
 use run_output::EngineError;
+use source_places::deadlocks::stuck_lines;
 use std::alloc::{AllocError, Global};
 
 /// What a command was given that can be at fault.

@@ -4,9 +4,9 @@ ghost use Rattle.std.specs.Prelude.{◌≡◌, ◌++◌, IfOk};
 ghost use Rattle.file_search.specs.Additions as spec;
 ghost use Rattle.file_search.specs.Additions.{HasAdditions, HasDeadlocks, HasPlaces};
 
-use source_places::deadlocks::with_deadlocks;
 use litmus_step::Settings;
 use race_output::settings_text::settings_line;
+use source_places::deadlocks::with_deadlocks;
 use source_places::with_places;
 use std::alloc::{AllocError, Global};
 
