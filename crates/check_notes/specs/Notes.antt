@@ -285,8 +285,7 @@ has_no_effect name = bytes_eq name (codes "barrier") || bytes_eq name (codes "cp
 -- a call that waits some time, or that prints
 unfoldable pub is_aside : List ℕ → Bool
 is_aside name = bytes_eq name (codes "cond_resched") || bytes_eq name (codes "udelay") || bytes_eq name (codes "msleep")
-    || bytes_eq name (codes "schedule") || bytes_eq name (codes "printk") || bytes_eq name (codes "printf")
-    || begins name (codes "pr_")
+    || bytes_eq name (codes "printk") || begins name (codes "pr_")
 
 -- a call that gives a number before the program runs
 unfoldable pub is_of_number : List ℕ → Bool

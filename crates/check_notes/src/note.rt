@@ -573,9 +573,7 @@ fn is_aside(name: &[u8]) -> bool
     name == b"cond_resched".as_slice()
         || name == b"udelay".as_slice()
         || name == b"msleep".as_slice()
-        || name == b"schedule".as_slice()
         || name == b"printk".as_slice()
-        || name == b"printf".as_slice()
         || name.starts_with(b"pr_")
 }
 
