@@ -148,7 +148,7 @@ kept of _ _ _ (left_out seen one all some old later) firsts known =
     ∙ kept of seen all some later firsts known
 
 -- what is found of lists is what is added of one after the other
-sightings_fold : (of : Searched → List (List ℕ)) (before later : List Searched)
+pub sightings_fold : (of : Searched → List (List ℕ)) (before later : List Searched)
     → fold (all_sighted of) (sightings_in of before) later ≡ sightings_in of (before ++ later)
 sightings_fold of before [] = ap (sightings_in of) (sym (append-nil before))
 sightings_fold of before (one ∷ later) =

@@ -5,6 +5,7 @@ pub mod FoundLemmas
 pub mod CountedOnce
 pub mod FirstLists
 pub mod CountedLemmas
+pub mod JoinLemmas
 pub mod Shown
 pub mod VecTexts
 pub mod ReadBack

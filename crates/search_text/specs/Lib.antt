@@ -7,6 +7,7 @@ pub mod Texts
 pub mod SearchFindings
 pub mod FirstLists
 pub mod Counted
+pub mod Joined
 pub mod Stops
 pub mod Write
 pub mod Printed

@@ -4,6 +4,7 @@ ghost use Rattle.std.specs.Prelude.{◌≡◌, ◌==◌, [], IfOk, OnOk, length,
 ghost use Rattle.std.specs.List.{list_any};
 ghost use Rattle.std.specs.Option.{option_map};
 ghost use Rattle.report_text.specs.Groups.{is_text};
+ghost use Rattle.search_text.specs.Joined.{later_too};
 ghost use Rattle.search_text.specs.Seen as spec;
 ghost use Rattle.search_text.specs.Seen.{sighted};
 
@@ -29,6 +30,13 @@ impl Model for Seen {
 }
 
 impl Seen {
+    /// In so many lists, the first of which has this schedule.
+    pub fn new(times: u64, first: Vec<Entry>) -> Seen
+        ensures { result ≡ (times, first.items) }
+    {
+        Seen { times, first }
+    }
+
     /// In the list of this schedule.
     pub fn once(alloc: Global, schedule: &[Entry]) -> Result<Seen, AllocError>
         ensures { IfOk result (λ seen. seen ≡ (1, schedule.now)) }
@@ -44,6 +52,13 @@ impl Seen {
         ensures { self.new ≡ spec.again self.old }
     {
         self.times = self.times.saturating_add(1);
+    }
+
+    /// In so many later lists too.
+    pub(crate) fn add_times(&mut self, later: u64)
+        ensures { self.new ≡ later_too self.old later }
+    {
+        self.times = self.times.saturating_add(later);
     }
 
     /// In so many lists instead.
