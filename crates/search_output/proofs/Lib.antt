@@ -1,5 +1,6 @@
 pub mod TraceLemmas
 pub mod ChosenLists
+pub mod JoinedTraces
 pub mod StateLemmas
 pub mod EndLemmas
 pub mod Results
