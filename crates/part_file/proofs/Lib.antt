@@ -1,0 +1,5 @@
+mod Back
+mod Lists
+mod RightParts
+mod SameSettings
+mod Shapes
