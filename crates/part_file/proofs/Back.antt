@@ -6,12 +6,13 @@ use Rattle.access_types.specs.declared.report.Report.{Report}
 use Rattle.access_types.specs.declared.report.Report.TheVariants.{Two, Unknown}
 use Rattle.access_types.specs.declared.report.ValueChange.{ValueChange}
 use Rattle.part_file.proofs.Lists.{each_back, list_back}
-use Rattle.part_file.specs.Reads.{entry_in, findings_in, layout_of, part_in, report_in, settings_in, sighting_in, stuck_in}
+use Rattle.part_file.specs.Reads.{entry_in, findings_in, layout_of, part_in, place_in, report_in, settings_in, sighting_in, stuck_in}
 use Rattle.part_file.specs.Reads.{data_list, stopped_of, ticket_of}
-use Rattle.part_file.specs.Values.{bits_of, entry_data, finder_of, findings_data, number_data, part_data, report_data}
+use Rattle.part_file.specs.Values.{bits_of, entry_data, finder_of, findings_data, number_data, part_data, place_data, report_data}
 use Rattle.part_file.specs.Values.{setter_of, settings_data, sighting_data, stopped_data, stuck_data, text_data, times_data}
 use Rattle.part_file.specs.Views.{FindingsView, PartView}
 use Rattle.part_file.specs.declared.part.PartSettings.{PartSettings}
+use Rattle.prepared_program.specs.declared.program_layout.place.Place.{Place}
 use Rattle.prepared_program.specs.declared.step_schedule.schedule.Entry.{Entry}
 use Rattle.search_text.specs.Times.{Sighting, Times}
 use Rattle.search_text.specs.declared.stopped.Stopped.{Stopped}
@@ -88,6 +89,10 @@ settings_back settings =
     (layout_back settings.layout)
     ∙ ap (λ (seconds : Option ℕ). record settings { seconds = seconds }) (number_back settings.seconds)
 
+place_back : (place : Place) → place_in (place_data place) ≡ place
+unfolding place_data place_in
+place_back place = refl
+
 stopped_back : (stopped : Stopped)
     → stopped_of (option_and_then as_u64 (option_and_then as_number (Some (stopped_data stopped))))
     (unwrap_or (option_and_then as_bool (Some (stopped_data stopped))) false) ≡ stopped
@@ -96,16 +101,19 @@ stopped_back AtLimit = refl
 stopped_back (AfterSeconds seconds) = refl
 
 -- with other values
-abbrev with_values : PartView → PartSettings → Stopped → FindingsView → Option (List ℕ) → PartView
-with_values part settings stopped found trace = record part { settings = settings; stopped = stopped; found = found; trace = trace }
+abbrev with_values : PartView → List Place → PartSettings → Stopped → FindingsView → Option (List ℕ) → PartView
+with_values part places settings stopped found trace =
+    record part { places = places; settings = settings; stopped = stopped; found = found; trace = trace }
 
-same_part : (part : PartView) (s s' : PartSettings) (t t' : Stopped) (f f' : FindingsView) (u u' : Option (List ℕ))
-    → s ≡ s' → t ≡ t' → f ≡ f' → u ≡ u' → with_values part s t f u ≡ with_values part s' t' f' u'
-same_part part s s' t t' f f' u u' a b c d =
-    ap (λ (x : PartSettings). with_values part x t f u) a ∙ ap (λ (x : Stopped). with_values part s' x f u) b
-    ∙ ap (λ (x : FindingsView). with_values part s' t' x u) c ∙ ap (λ (x : Option (List ℕ)). with_values part s' t' f' x) d
+same_part : (part : PartView) (p p' : List Place) (s s' : PartSettings) (t t' : Stopped) (f f' : FindingsView) (u u' : Option (List ℕ))
+    → p ≡ p' → s ≡ s' → t ≡ t' → f ≡ f' → u ≡ u' → with_values part p s t f u ≡ with_values part p' s' t' f' u'
+same_part part p p' s s' t t' f f' u u' z a b c d =
+    ap (λ (x : List Place). with_values part x s t f u) z ∙ ap (λ (x : PartSettings). with_values part p' x t f u) a
+    ∙ ap (λ (x : Stopped). with_values part p' s' x f u) b ∙ ap (λ (x : FindingsView). with_values part p' s' t' x u) c
+    ∙ ap (λ (x : Option (List ℕ)). with_values part p' s' t' f' x) d
 
 pub part_back : (part : PartView) → map report_in (map report_data part.found.known) ≡ part.found.known → part_in (part_data part) ≡ part
 unfolding part_data part_in
 part_back part known =
-    same_part part _ _ _ _ _ _ _ _ (settings_back part.settings) (stopped_back part.stopped) (findings_back part.found known) (text_back part.trace)
+    same_part part _ _ _ _ _ _ _ _ _ _ (each_back place_data place_in place_back part.places) (settings_back part.settings)
+    (stopped_back part.stopped) (findings_back part.found known) (text_back part.trace)

@@ -3,9 +3,15 @@ use Rattle.std.proofs.Common.{◌≡◌, ◌∷◌, [], ◌∙◌, ◌+◌, ◌<
 use Rattle.std.proofs.lemmas.List.{map-append}
 use Rattle.output_pieces.proofs.Grown.{grown}
 use Rattle.part_file.specs.Reads.{data_list}
+use Rattle.search_text.specs.Times.{Sighting}
+use Rattle.search_text.specs.declared.joined.SeenText.{SeenText}
 use Rattle.serde_json.specs.Data.{Data}
 use Rattle.serde_json.specs.View.{items_of, items_view, view}
 use Rattle.serde_json.specs.declared.value.Value.{Value}
+
+-- the sighting that a text of plain data is
+abbrev pub sighting_view : SeenText → Sighting
+sighting_view one = (one.text.items, one.seen)
 
 -- the items of an array are those that it was made of
 pub list_back : (all : List Data) → data_list (items_of all) ≡ all

@@ -2,10 +2,11 @@
 use Rattle.std.proofs.Common.{◌≡◌, ◌≤◌, ◌∷◌, [], ℕ, List, None, Option, Some, arith, false, map, refl}
 use Rattle.access_types.specs.declared.report.Report.{Report}
 use Rattle.output_pieces.proofs.Floats.{none_of}
-use Rattle.part_file.specs.Values.{entries_data, entry_data, findings_data, known_data, number_data, part_data}
+use Rattle.part_file.specs.Values.{entries_data, entry_data, findings_data, known_data, number_data, part_data, place_data, places_data}
 use Rattle.part_file.specs.Values.{report_data, settings_data, sighting_data, sightings_data, stopped_data, stuck_data, text_data, times_data}
 use Rattle.part_file.specs.Views.{FindingsView, PartView}
 use Rattle.part_file.specs.declared.part.PartSettings.{PartSettings}
+use Rattle.prepared_program.specs.declared.program_layout.place.Place.{Place}
 use Rattle.prepared_program.specs.declared.step_schedule.schedule.Entry.{Entry}
 use Rattle.search_text.specs.Times.{Sighting, Times}
 use Rattle.search_text.specs.declared.stopped.Stopped.{Stopped}
@@ -61,6 +62,13 @@ settings_none : (settings : PartSettings) → has_float (settings_data settings)
 unfolding settings_data
 settings_none settings = simp number_none
 
+place_none : (place : Place) → has_float (place_data place) ≡ false
+unfolding place_data
+place_none place = refl
+
+places_none : (places : List Place) → has_float (places_data places) ≡ false
+places_none places = none_of place_data places place_none
+
 stopped_none : (stopped : Stopped) → has_float (stopped_data stopped) ≡ false
 stopped_none No = refl
 stopped_none AtLimit = refl
@@ -69,7 +77,7 @@ stopped_none (AfterSeconds seconds) = refl
 pub part_none : (part : PartView) → has_float (part_data part) ≡ false
 unfolding part_data
 part_none part =
-    rw (findings_none part.found, settings_none part.settings, stopped_none part.stopped, text_none part.trace) refl
+    rw (findings_none part.found, places_none part.places, settings_none part.settings, stopped_none part.stopped, text_none part.trace) refl
 
 -- ---- how deep it nests
 
@@ -123,6 +131,13 @@ settings_shallow : (settings : PartSettings) → depth (settings_data settings) 
 unfolding settings_data
 settings_shallow settings = simp number_flat (omega arith)
 
+place_shallow : (place : Place) → depth (place_data place) ≤ 1
+unfolding place_data
+place_shallow place = omega arith
+
+places_shallow : (places : List Place) → depth (places_data places) ≤ 2
+places_shallow places = omega (arith, items_shallow place_data 1 place_shallow places)
+
 stopped_flat : (stopped : Stopped) → depth (stopped_data stopped) ≡ 0
 stopped_flat No = refl
 stopped_flat AtLimit = refl
@@ -131,4 +146,4 @@ stopped_flat (AfterSeconds seconds) = refl
 pub part_shallow : (part : PartView) → depth (part_data part) ≤ 6
 unfolding part_data
 part_shallow part =
-    omega (arith, findings_shallow part.found, settings_shallow part.settings, stopped_flat part.stopped, text_flat part.trace)
+    omega (arith, findings_shallow part.found, places_shallow part.places, settings_shallow part.settings, stopped_flat part.stopped, text_flat part.trace)

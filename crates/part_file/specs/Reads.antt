@@ -6,6 +6,7 @@ use Rattle.access_types.specs.declared.report.Report.TheVariants.{Two, Unknown}
 use Rattle.access_types.specs.declared.report.ValueChange.{ValueChange}
 use Rattle.part_file.specs.Views.{FindingsView, PartView}
 use Rattle.part_file.specs.declared.part.PartSettings.{PartSettings}
+use Rattle.prepared_program.specs.declared.program_layout.place.Place.{Place}
 use Rattle.prepared_program.specs.declared.step_schedule.schedule.Entry.{Entry}
 use Rattle.search_text.specs.Times.{Sighting, Times}
 use Rattle.search_text.specs.declared.stopped.Stopped.{Stopped}
@@ -109,6 +110,13 @@ findings_in value = record {
   failed = number_at (codes "failed") value;
 }
 
+-- where a variable stands
+unfoldable pub place_in : Data → Place
+place_in value = record { name = text_at (codes "name") value; addr = number_at (codes "address") value }
+
+abbrev pub places_at : (key : List ℕ) → Data → List Place
+places_at key value = map place_in (items_at key value)
+
 -- how many bits a watch word has
 abbrev pub layout_of : ℕ → Layout
 layout_of bits = if bits == 32 then W32 else W64
@@ -144,7 +152,7 @@ unfoldable pub part_in : Data → PartView
 part_in value = record {
   file = text_at (codes "file") value;
   text = text_at (codes "text") value;
-  places = text_at (codes "places") value;
+  places = places_at (codes "places") value;
   settings = settings_in (member_at (codes "settings") value);
   part = number_at (codes "part") value;
   parts = number_at (codes "parts") value;

@@ -5,6 +5,7 @@ use Rattle.access_types.specs.declared.report.Report.TheVariants.{Two, Unknown}
 use Rattle.access_types.specs.declared.report.ValueChange.{ValueChange}
 use Rattle.part_file.specs.Views.{FindingsView, PartView}
 use Rattle.part_file.specs.declared.part.PartSettings.{PartSettings}
+use Rattle.prepared_program.specs.declared.program_layout.place.Place.{Place}
 use Rattle.prepared_program.specs.declared.step_schedule.schedule.Entry.{Entry}
 use Rattle.search_text.specs.Times.{Sighting, Times}
 use Rattle.search_text.specs.declared.stopped.Stopped.{Stopped}
@@ -102,6 +103,14 @@ settings_data settings = object
     (member (codes "turns") (number (unsigned settings.turns)) (member (codes "unknown_origin") (boolean settings.unknown_origin)
     (member (codes "value_change_only") (boolean settings.value_change_only) no_members)))))))))))))
 
+-- where a variable stands
+unfoldable pub place_data : Place → Data
+place_data place = object
+    (member (codes "address") (number (unsigned place.addr)) (member (codes "name") (string place.name) no_members))
+
+abbrev pub places_data : List Place → Data
+places_data places = array (items_of (map place_data places))
+
 -- whether a search was stopped: at its limit, or after so many seconds
 abbrev pub stopped_data : Stopped → Data
 stopped_data No = boolean false
@@ -118,6 +127,6 @@ part_data part = object
     (member (codes "file") (string part.file) (member (codes "format") (string format)
     (member (codes "found") (findings_data part.found) (member (codes "nodes") (number (unsigned part.nodes))
     (member (codes "part") (number (unsigned part.part)) (member (codes "parts") (number (unsigned part.parts))
-    (member (codes "places") (string part.places) (member (codes "settings") (settings_data part.settings)
+    (member (codes "places") (places_data part.places) (member (codes "settings") (settings_data part.settings)
     (member (codes "stopped") (stopped_data part.stopped) (member (codes "text") (string part.text)
     (member (codes "trace") (text_data part.trace) no_members)))))))))))

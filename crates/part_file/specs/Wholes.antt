@@ -15,7 +15,7 @@ AreOfOneFile first part =
 -- their searches go by the same, and are shared out among as many
 abbrev pub GoByTheSame : (first part : Part) → Type 0
 GoByTheSame first part =
-    (string_bytes part.places ≡ string_bytes first.places) × (part.settings ≡ first.settings) × (part.parts ≡ first.parts)
+    (part.places.items ≡ first.places.items) × (part.settings ≡ first.settings) × (part.parts ≡ first.parts)
 
 -- its number is one of those from 1 to that of all parts, which are at most 65,536
 abbrev pub IsInRange : Part → Type 0

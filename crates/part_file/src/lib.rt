@@ -15,6 +15,6 @@ pub mod text;
 pub mod values;
 pub mod whole;
 
-pub use part::{Part, PartFindings, PartSettings, TextSeen, TimesSeen};
+pub use part::{Part, PartSettings};
 pub use text::{PartError, part_text, read_part};
 pub use whole::{PartFault, PartsFault, check_parts};

@@ -1,42 +1,8 @@
 //! What one part of a search leaves.
 
-use access_types::Report;
-use prepared_program::step_schedule::Entry;
-use search_text::Stopped;
+use prepared_program::program_layout::Place;
+use search_text::{FindingsParts, Stopped};
 use watch_word::Layout;
-
-/// In how many schedules something was seen, and the first of them.
-#[derive(Drop)]
-pub struct TimesSeen {
-    pub count: u64,
-    pub first: Vec<Entry>,
-}
-
-/// A text, in how many schedules it was seen, and the first of them.
-#[derive(Drop)]
-pub struct TextSeen {
-    pub text: Vec<u8>,
-    pub seen: TimesSeen,
-}
-
-/// What is found of the schedules of a part.
-#[derive(Drop)]
-pub struct PartFindings {
-    /// The texts of their reports, in the order in which they were first seen.
-    pub reports: Vec<TextSeen>,
-    /// Reports by which a text can be traced to its accesses: of each text that is found one at least.
-    pub known: Vec<Report>,
-    /// After how many of them not all tasks have ended, if there are such.
-    pub stuck: Option<TimesSeen>,
-    /// The final states of the others, in the order in which they were first seen.
-    pub states: Vec<TextSeen>,
-    /// How many schedules were searched.
-    pub searched: u64,
-    /// After how many the proposition of the condition holds.
-    pub held: u64,
-    /// After how many it doesn't.
-    pub failed: u64,
-}
 
 /// What a search goes by, but for where its variables stand.
 #[derive(Clone, Copy, PartialEq)]
@@ -76,8 +42,8 @@ pub struct Part {
     pub file: String,
     /// The text of the file.
     pub text: Vec<u8>,
-    /// Where some of its variables stand, as a place list.
-    pub places: String,
+    /// Where some of its variables stand, in the order in which that was given.
+    pub places: Vec<Place>,
     pub settings: PartSettings,
     /// Which part this is, from 1.
     pub part: u64,
@@ -87,7 +53,8 @@ pub struct Part {
     pub nodes: u64,
     /// Whether the search of the part was stopped.
     pub stopped: Stopped,
-    pub found: PartFindings,
+    /// What is found of its schedules.
+    pub found: FindingsParts,
     /// The trace of the first schedule with a report, if it is wanted and there is one.
     pub trace: Option<Vec<u8>>,
 }

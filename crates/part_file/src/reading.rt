@@ -1,18 +1,21 @@
 //! The part that is read of a value of JSON.
 
-ghost use Rattle.std.specs.Prelude.{◌≡◌, IfOk, map, option_map};
+ghost use Rattle.std.specs.Prelude.{◌≡◌, IfOk, map};
 ghost use Rattle.part_file.specs.Reads as spec;
-ghost use Rattle.part_file.specs.Views.{findings_view, part_view, sighting_view, times_view};
+ghost use Rattle.part_file.specs.Views.{findings_view, part_view};
+ghost use Rattle.search_text.specs.Joined.{sightings_of};
 ghost use Rattle.serde_json.specs.View.{view};
 
 use crate::members::{
     bytes_at, bytes_if_at, flag_at, items_at, member_at, number_at, number_if_at, number_item,
     text_at,
 };
-use crate::part::{Part, PartFindings, PartSettings, TextSeen, TimesSeen};
+use crate::part::{Part, PartSettings};
 use access_types::{Report, ValueChange};
+use litmus_syntax::Name;
+use prepared_program::program_layout::Place;
 use prepared_program::step_schedule::Entry;
-use search_text::Stopped;
+use search_text::{FindingsParts, Seen, SeenText, Stopped};
 use serde_json::Value;
 use std::alloc::{AllocError, Global};
 use watch_word::Layout;
@@ -50,23 +53,20 @@ fn entries_at(alloc: Global, value: &Value, key: &str) -> Result<Vec<Entry>, All
 
 /// A text that was seen in schedules.
 #[tactic(auto, unfolding(crate::specs::Reads::sighting_in))]
-fn sighting_of(alloc: Global, value: &Value) -> Result<TextSeen, AllocError>
-    ensures { IfOk result (λ one. sighting_view one ≡ spec.sighting_in (view value.now)) }
+fn sighting_of(alloc: Global, value: &Value) -> Result<SeenText, AllocError>
+    ensures { IfOk result (λ one. (one.text.items, one.seen) ≡ spec.sighting_in (view value.now)) }
 {
     let first = entries_at(alloc, value, "first")?;
     let text = bytes_at(alloc, value, "text")?;
-    Ok(TextSeen {
+    Ok(SeenText {
         text,
-        seen: TimesSeen {
-            count: number_at(value, "count"),
-            first,
-        },
+        seen: Seen::new(number_at(value, "count"), first),
     })
 }
 
 /// Texts that were seen in schedules.
-fn sightings_of(alloc: Global, values: &[Value]) -> Result<Vec<TextSeen>, AllocError>
-    ensures { IfOk result (λ all. map sighting_view all.items ≡ map (λ value. spec.sighting_in (view value)) values.now) }
+fn sightings_of(alloc: Global, values: &[Value]) -> Result<Vec<SeenText>, AllocError>
+    ensures { IfOk result (λ all. sightings_of all.items ≡ map (λ value. spec.sighting_in (view value)) values.now) }
 {
     let mut all = Vec::new(alloc);
     for value in values {
@@ -77,8 +77,8 @@ fn sightings_of(alloc: Global, values: &[Value]) -> Result<Vec<TextSeen>, AllocE
 }
 
 /// The texts that a member has.
-fn sightings_at(alloc: Global, value: &Value, key: &str) -> Result<Vec<TextSeen>, AllocError>
-    ensures { IfOk result (λ all. map sighting_view all.items ≡ spec.sightings_at key.now (view value.now)) }
+fn sightings_at(alloc: Global, value: &Value, key: &str) -> Result<Vec<SeenText>, AllocError>
+    ensures { IfOk result (λ all. sightings_of all.items ≡ spec.sightings_at key.now (view value.now)) }
 {
     match items_at(value, key) {
         Some(items) => sightings_of(alloc, items.as_slice()),
@@ -88,13 +88,13 @@ fn sightings_at(alloc: Global, value: &Value, key: &str) -> Result<Vec<TextSeen>
 
 /// Deadlocks, if they are counted.
 #[tactic(auto, unfolding(crate::specs::Reads::stuck_in))]
-fn stuck_of(alloc: Global, value: &Value) -> Result<Option<TimesSeen>, AllocError>
-    ensures { IfOk result (λ stuck. option_map times_view stuck ≡ spec.stuck_in (view value.now)) }
+fn stuck_of(alloc: Global, value: &Value) -> Result<Option<Seen>, AllocError>
+    ensures { IfOk result (λ stuck. stuck ≡ spec.stuck_in (view value.now)) }
 {
     match number_if_at(value, "count") {
         Some(count) => {
             let first = entries_at(alloc, value, "first")?;
-            Ok(Some(TimesSeen { count, first }))
+            Ok(Some(Seen::new(count, first)))
         }
         None => Ok(None),
     }
@@ -165,14 +165,14 @@ fn known_at(alloc: Global, value: &Value, key: &str) -> Result<Vec<Report>, Allo
 
 /// What is found of the schedules of a part.
 #[tactic(auto, unfolding(crate::specs::Reads::findings_in))]
-fn findings_of(alloc: Global, value: &Value) -> Result<PartFindings, AllocError>
+fn findings_of(alloc: Global, value: &Value) -> Result<FindingsParts, AllocError>
     ensures { IfOk result (λ found. findings_view found ≡ spec.findings_in (view value.now)) }
 {
     let known = known_at(alloc, value, "known")?;
     let stuck = stuck_of(alloc, member_at(value, "stuck"))?;
     let states = sightings_at(alloc, value, "states")?;
     let reports = sightings_at(alloc, value, "reports")?;
-    Ok(PartFindings {
+    Ok(FindingsParts {
         reports,
         known,
         stuck,
@@ -181,6 +181,39 @@ fn findings_of(alloc: Global, value: &Value) -> Result<PartFindings, AllocError>
         held: number_at(value, "held"),
         failed: number_at(value, "failed"),
     })
+}
+
+/// Where a variable stands.
+#[tactic(auto, unfolding(crate::specs::Reads::place_in))]
+fn place_of(alloc: Global, value: &Value) -> Result<Place, AllocError>
+    ensures { IfOk result (λ place. place ≡ spec.place_in (view value.now)) }
+{
+    Ok(Place {
+        name: Name::from_string(text_at(alloc, value, "name")?),
+        addr: number_at(value, "address"),
+    })
+}
+
+/// Where variables stand.
+fn places_of(alloc: Global, values: &[Value]) -> Result<Vec<Place>, AllocError>
+    ensures { IfOk result (λ places. places.items ≡ map (λ value. spec.place_in (view value)) values.now) }
+{
+    let mut places = Vec::new(alloc);
+    for value in values {
+        let place = place_of(alloc, value)?;
+        places.push(place)?;
+    }
+    Ok(places)
+}
+
+/// The places that a member has.
+fn places_at(alloc: Global, value: &Value, key: &str) -> Result<Vec<Place>, AllocError>
+    ensures { IfOk result (λ places. places.items ≡ spec.places_at key.now (view value.now)) }
+{
+    match items_at(value, key) {
+        Some(items) => places_of(alloc, items.as_slice()),
+        None => Ok(Vec::new(alloc)),
+    }
 }
 
 /// How many bits a watch word has.
@@ -235,7 +268,7 @@ pub(crate) fn part_of(alloc: Global, value: &Value) -> Result<Part, AllocError>
 {
     let file = text_at(alloc, value, "file")?;
     let text = bytes_at(alloc, value, "text")?;
-    let places = text_at(alloc, value, "places")?;
+    let places = places_at(alloc, value, "places")?;
     let trace = bytes_if_at(alloc, value, "trace")?;
     let found = findings_of(alloc, member_at(value, "found"))?;
     Ok(Part {

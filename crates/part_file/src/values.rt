@@ -3,16 +3,18 @@
 ghost use Rattle.std.specs.Prelude.{◌≡◌, ◌^◌, ◌<◌, IfOk, IfSome, map, option_map};
 ghost use Rattle.part_file.specs.Reads.{part_in, report_in};
 ghost use Rattle.part_file.specs.Values as spec;
-ghost use Rattle.part_file.specs.Views.{findings_view, part_view, sighting_view, times_view};
+ghost use Rattle.part_file.specs.Views.{findings_view, part_view};
+ghost use Rattle.search_text.specs.Joined.{sightings_of};
 ghost use Rattle.serde_json.specs.Data.{string};
 ghost use Rattle.serde_json.specs.View.{view};
 
-use crate::part::{Part, PartFindings, PartSettings, TextSeen, TimesSeen};
+use crate::part::{Part, PartSettings};
 use access_types::{Report, ValueChange};
 use output_pieces::values::array_value;
 use output_pieces::{ObjectBuilder, add_item};
+use prepared_program::program_layout::Place;
 use prepared_program::step_schedule::Entry;
-use search_text::Stopped;
+use search_text::{FindingsParts, Seen, SeenText, Stopped};
 use serde_json::Value;
 use std::alloc::{AllocError, Global};
 use std::str::from_utf8;
@@ -73,26 +75,26 @@ fn entry_values(alloc: Global, entries: &[Entry]) -> Result<Vec<Value>, AllocErr
 }
 
 /// A schedule.
-fn entries_value(alloc: Global, entries: &Vec<Entry>) -> Result<Value, AllocError>
-    ensures { IfOk result (λ value. view value ≡ spec.entries_data entries.now.items) }
+fn entries_value(alloc: Global, entries: &[Entry]) -> Result<Value, AllocError>
+    ensures { IfOk result (λ value. view value ≡ spec.entries_data entries.now) }
 {
-    let values = entry_values(alloc, entries.as_slice())?;
+    let values = entry_values(alloc, entries)?;
     Ok(array_value(values))
 }
 
 /// In how many schedules something was seen, and the first of them.
-fn times_value(alloc: Global, seen: &TimesSeen) -> Result<Value, AllocError>
-    ensures { IfOk result (λ value. view value ≡ spec.times_data (times_view seen.now)) }
+fn times_value(alloc: Global, seen: &Seen) -> Result<Value, AllocError>
+    ensures { IfOk result (λ value. view value ≡ spec.times_data seen.now) }
 {
     ObjectBuilder::new(alloc)
-        .number("count", seen.count)
-        .value("first", entries_value(alloc, &seen.first))
+        .number("count", seen.times())
+        .value("first", entries_value(alloc, seen.first()))
         .build()
 }
 
 /// The same, if it was seen.
-fn stuck_value(alloc: Global, stuck: &Option<TimesSeen>) -> Result<Value, AllocError>
-    ensures { IfOk result (λ value. view value ≡ spec.stuck_data (option_map times_view stuck.now)) }
+fn stuck_value(alloc: Global, stuck: &Option<Seen>) -> Result<Value, AllocError>
+    ensures { IfOk result (λ value. view value ≡ spec.stuck_data stuck.now) }
 {
     match stuck {
         None => Ok(Value::Null),
@@ -101,19 +103,19 @@ fn stuck_value(alloc: Global, stuck: &Option<TimesSeen>) -> Result<Value, AllocE
 }
 
 /// A text, in how many schedules it was seen, and the first of them.
-fn sighting_value(alloc: Global, one: &TextSeen) -> Result<Value, AllocError>
-    ensures { IfOk result (λ value. view value ≡ spec.sighting_data (sighting_view one.now)) }
+fn sighting_value(alloc: Global, one: &SeenText) -> Result<Value, AllocError>
+    ensures { IfOk result (λ value. view value ≡ spec.sighting_data (one.now.text.items, one.now.seen)) }
 {
     ObjectBuilder::new(alloc)
-        .number("count", one.seen.count)
-        .value("first", entries_value(alloc, &one.seen.first))
+        .number("count", one.seen.times())
+        .value("first", entries_value(alloc, one.seen.first()))
         .value("text", bytes_value(alloc, &one.text))
         .build()
 }
 
 /// Such texts.
-fn sighting_values(alloc: Global, all: &[TextSeen]) -> Result<Vec<Value>, AllocError>
-    ensures { IfOk result (λ values. map view values.items ≡ map spec.sighting_data (map sighting_view all.now)) }
+fn sighting_values(alloc: Global, all: &[SeenText]) -> Result<Vec<Value>, AllocError>
+    ensures { IfOk result (λ values. map view values.items ≡ map spec.sighting_data (sightings_of all.now)) }
 {
     let mut values = Vec::new(alloc);
     for one in all {
@@ -123,8 +125,8 @@ fn sighting_values(alloc: Global, all: &[TextSeen]) -> Result<Vec<Value>, AllocE
 }
 
 /// Such texts, as one value.
-fn sightings_value(alloc: Global, all: &Vec<TextSeen>) -> Result<Value, AllocError>
-    ensures { IfOk result (λ value. view value ≡ spec.sightings_data (map sighting_view all.now.items)) }
+fn sightings_value(alloc: Global, all: &Vec<SeenText>) -> Result<Value, AllocError>
+    ensures { IfOk result (λ value. view value ≡ spec.sightings_data (sightings_of all.now.items)) }
 {
     let values = sighting_values(alloc, all.as_slice())?;
     Ok(array_value(values))
@@ -218,7 +220,7 @@ fn known_value(alloc: Global, known: &Vec<Report>) -> Result<Value, AllocError>
 }
 
 /// What is found of the schedules of a part.
-fn findings_value(alloc: Global, found: &PartFindings) -> Result<Value, AllocError>
+fn findings_value(alloc: Global, found: &FindingsParts) -> Result<Value, AllocError>
     ensures { IfOk result (λ value. (view value ≡ spec.findings_data (findings_view found.now))
         × (map report_in (map spec.report_data found.now.known.items) ≡ found.now.known.items)) }
 {
@@ -265,6 +267,35 @@ fn settings_value(alloc: Global, settings: PartSettings) -> Result<Value, AllocE
         .build()
 }
 
+/// Where a variable stands.
+fn place_value(alloc: Global, place: &Place) -> Result<Value, AllocError>
+    ensures { IfOk result (λ value. view value ≡ spec.place_data place.now) }
+{
+    ObjectBuilder::new(alloc)
+        .number("address", place.addr)
+        .text("name", place.name.as_str())
+        .build()
+}
+
+/// Where variables stand.
+fn place_values(alloc: Global, places: &[Place]) -> Result<Vec<Value>, AllocError>
+    ensures { IfOk result (λ values. map view values.items ≡ map spec.place_data places.now) }
+{
+    let mut values = Vec::new(alloc);
+    for place in places {
+        add_item(&mut values, place_value(alloc, place))?;
+    }
+    Ok(values)
+}
+
+/// Where variables stand, as one value.
+fn places_value(alloc: Global, places: &Vec<Place>) -> Result<Value, AllocError>
+    ensures { IfOk result (λ value. view value ≡ spec.places_data places.now.items) }
+{
+    let values = place_values(alloc, places.as_slice())?;
+    Ok(array_value(values))
+}
+
 /// Whether a search was stopped.
 fn stopped_value(stopped: Stopped) -> Value
     ensures { view result ≡ spec.stopped_data stopped }
@@ -288,7 +319,7 @@ fn whole_value(alloc: Global, part: &Part, found: Value) -> Result<Value, AllocE
         .number("nodes", part.nodes)
         .number("part", part.part)
         .number("parts", part.parts)
-        .text("places", part.places.as_str())
+        .value("places", places_value(alloc, &part.places))
         .value("settings", settings_value(alloc, part.settings))
         .value("stopped", Ok(stopped_value(part.stopped)))
         .value("text", bytes_value(alloc, &part.text))

@@ -5,6 +5,7 @@ ghost use Rattle.part_file.specs.Wholes.{AreOfOneFile, AreRight, AreWhole, GoByT
 ghost use Rattle.part_file.specs.Wholes as spec;
 
 use crate::part::{Part, PartSettings};
+use prepared_program::program_layout::Place;
 
 /// What is amiss with a part.
 #[derive(Clone, Copy)]
@@ -47,11 +48,33 @@ fn are_same_settings(one: PartSettings, other: PartSettings) -> bool
     one == other
 }
 
+/// Whether two places are the same.
+fn is_same_place(one: &Place, other: &Place) -> bool
+    ensures { IsTrue result ↔ (one.now ≡ other.now) }
+{
+    one.name.as_str() == other.name.as_str() && one.addr == other.addr
+}
+
+/// Whether these are the same places, in the same order.
+fn are_same_places(ones: &[Place], others: &[Place]) -> bool
+    ensures { IsTrue result ↔ (ones.now ≡ others.now) }
+{
+    if ones.len() != others.len() {
+        return false;
+    }
+    for place in 0..ones.len() {
+        if !is_same_place(&ones[place], &others[place]) {
+            return false;
+        }
+    }
+    true
+}
+
 /// Whether their searches go by the same, and are shared out among as many.
 fn go_by_the_same(first: &Part, part: &Part) -> bool
     ensures { IsTrue result ↔ GoByTheSame first.now part.now }
 {
-    part.places.as_str() == first.places.as_str()
+    are_same_places(&part.places, &first.places)
         && are_same_settings(part.settings, first.settings)
         && part.parts == first.parts
 }

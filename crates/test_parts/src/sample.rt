@@ -1,19 +1,21 @@
 //! Parts of searches.
 
 use access_types::{Report, ValueChange};
-use part_file::{Part, PartFindings, PartSettings, TextSeen, TimesSeen};
+use litmus_syntax::Name;
+use part_file::{Part, PartSettings};
+use prepared_program::program_layout::Place;
 use prepared_program::step_schedule::Entry;
-use search_text::Stopped;
+use search_text::{FindingsParts, Seen, SeenText, Stopped};
 use std::alloc::{AllocError, Global};
 use watch_word::Layout;
 
 /// A text that was seen so often, first in this schedule.
-fn seen(alloc: Global, text: &str, count: u64, first: &[Entry]) -> Result<TextSeen, AllocError> {
+fn seen(alloc: Global, text: &str, times: u64, first: &[Entry]) -> Result<SeenText, AllocError> {
     let text = Vec::from_slice(alloc, text.as_bytes())?;
     let first = first.to_vec(alloc)?;
-    Ok(TextSeen {
+    Ok(SeenText {
         text,
-        seen: TimesSeen { count, first },
+        seen: Seen::new(times, first),
     })
 }
 
@@ -44,17 +46,14 @@ fn known(alloc: Global) -> Result<Vec<Report>, AllocError> {
 }
 
 /// Findings with something of each kind.
-fn findings(alloc: Global) -> Result<PartFindings, AllocError> {
+fn findings(alloc: Global) -> Result<FindingsParts, AllocError> {
     let mut reports = Vec::new(alloc);
     reports.push(seen(alloc, "r\n\"q\"\\", 2, &[steps(0, 3), steps(1, 2)])?)?;
     let mut states = Vec::new(alloc);
     states.push(seen(alloc, "1:r0=0;", 3, &[steps(0, 1)])?)?;
     states.push(seen(alloc, "1:r0=1;", 1, &[])?)?;
-    let stuck = TimesSeen {
-        count: 1,
-        first: [steps(1, 1)].to_vec(alloc)?,
-    };
-    Ok(PartFindings {
+    let stuck = Seen::new(1, [steps(1, 1)].to_vec(alloc)?);
+    Ok(FindingsParts {
         reports,
         known: known(alloc)?,
         stuck: Some(stuck),
@@ -84,12 +83,26 @@ fn settings() -> PartSettings {
     }
 }
 
+/// Where two variables stand.
+fn places(alloc: Global) -> Result<Vec<Place>, AllocError> {
+    let mut places = Vec::new(alloc);
+    places.push(Place {
+        name: Name::from_string(String::from_str(alloc, "x")?),
+        addr: 4096,
+    })?;
+    places.push(Place {
+        name: Name::from_string(String::from_str(alloc, "flag")?),
+        addr: 8200,
+    })?;
+    Ok(places)
+}
+
 /// The part of the rows.
 pub fn sample(alloc: Global) -> Result<Part, AllocError> {
     Ok(Part {
         file: String::from_str(alloc, "mp.litmus")?,
         text: Vec::from_slice(alloc, b"C mp\n{}\n")?,
-        places: String::from_str(alloc, "x=4096")?,
+        places: places(alloc)?,
         settings: settings(),
         part: 1,
         parts: 2,
@@ -100,7 +113,8 @@ pub fn sample(alloc: Global) -> Result<Part, AllocError> {
     })
 }
 
-/// The part `N/COUNT`, of another file if a `f` stands before it, and of another search if a `s` does.
+/// The part `N/COUNT`, of another file if a `f` stands before it, of another search if a `s` does, and with one place
+/// less if a `p` does.
 pub fn numbered(alloc: Global, word: &str) -> Result<Option<Part>, AllocError> {
     let (file, word) = match word.strip_prefix('f') {
         Some(word) => ("C sb\n", word),
@@ -109,6 +123,10 @@ pub fn numbered(alloc: Global, word: &str) -> Result<Option<Part>, AllocError> {
     let (seed, word) = match word.strip_prefix('s') {
         Some(word) => (2, word),
         None => (1, word),
+    };
+    let (places, word) = match word.strip_prefix('p') {
+        Some(word) => (1, word),
+        None => (2, word),
     };
     let Some((part, parts)) = word.split_once('/') else {
         return Ok(None);
@@ -119,6 +137,7 @@ pub fn numbered(alloc: Global, word: &str) -> Result<Option<Part>, AllocError> {
     let mut whole = sample(alloc)?;
     whole.text = Vec::from_slice(alloc, file.as_bytes())?;
     whole.settings.seed = seed;
+    whole.places.truncate(places);
     whole.part = part;
     whole.parts = parts;
     Ok(Some(whole))

@@ -1,9 +1,8 @@
 -- Those of the items of the member.
 use Rattle.std.proofs.Common.{◌∙◌, Option, ap, map}
 use Rattle.std.proofs.lemmas.Result.{IfOk-weaker}
-use Rattle.part_file.proofs.Lists.{read_each}
+use Rattle.part_file.proofs.Lists.{read_each, sighting_view}
 use Rattle.part_file.specs.Reads.{list_in, sighting_in}
-use Rattle.part_file.specs.Views.{sighting_view}
 use Rattle.serde_json.specs.Data.{Items}
 use Rattle.serde_json.specs.View.{view}
 use Rattle.serde_json.specs.declared.value.Value.{Value}

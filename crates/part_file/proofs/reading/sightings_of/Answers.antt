@@ -1,9 +1,8 @@
 -- Of one value more one more is read.
 use Rattle.std.proofs.Common.{◌∙◌, ◌++◌, ◌∷◌, [], ap, arith, map}
 use Rattle.std.proofs.lemmas.List.{map-append}
-use Rattle.part_file.proofs.Lists.{read_more}
+use Rattle.part_file.proofs.Lists.{read_more, sighting_view}
 use Rattle.part_file.specs.Reads.{sighting_in}
-use Rattle.part_file.specs.Views.{sighting_view}
 use Rattle.search_text.specs.Times.{Sighting}
 use Rattle.part_file.proofs.reading.sightings_of.Goals as goal
 

@@ -1,7 +1,7 @@
 -- What is read so far is that of the values so far.
 use Rattle.std.proofs.Common.{◌≡◌, map, take}
+use Rattle.part_file.proofs.Lists.{sighting_view}
 use Rattle.part_file.specs.Reads.{sighting_in}
-use Rattle.part_file.specs.Views.{sighting_view}
 use Rattle.serde_json.specs.View.{view}
 use Rattle.part_file.proofs.reading.sightings_of.Given as goal
 

@@ -2,17 +2,17 @@
 use Rattle.std.proofs.Common.{◌≡◌, ◌∙◌, ◌++◌, List, ap, arith, map}
 use Rattle.std.proofs.lemmas.List.{map-append}
 use Rattle.output_pieces.proofs.Grown.{grown}
+use Rattle.part_file.proofs.Lists.{sighting_view}
 use Rattle.part_file.specs.Values.{sighting_data}
-use Rattle.part_file.specs.Views.{sighting_view}
-use Rattle.part_file.specs.declared.part.TextSeen.{TextSeen}
+use Rattle.search_text.specs.declared.joined.SeenText.{SeenText}
 use Rattle.part_file.proofs.values.sighting_values.Goals as goal
 
-splits : (a b : List TextSeen)
+splits : (a b : List SeenText)
     → map sighting_data (map sighting_view (a ++ b)) ≡ map sighting_data (map sighting_view a) ++ map sighting_data (map sighting_view b)
 splits a b = ap (map sighting_data) (map-append sighting_view a b) ∙ map-append sighting_data (map sighting_view a) (map sighting_view b)
 
 pub loop-one-preserved : goal.loop-one-preserved
 loop-one-preserved c =
     c.in_ok-add_item.ensures (sighting_data (sighting_view c.one-item.result)) c.sighting_value.ensures
-    ∙ grown (λ (all : List TextSeen). map sighting_data (map sighting_view all)) splits c.args.all.now c.loop-one.one-index c.one-item.result
+    ∙ grown (λ (all : List SeenText). map sighting_data (map sighting_view all)) splits c.args.all.now c.loop-one.one-index c.one-item.result
     (omega arith) c.one-item.is _ c.loop-one.invariant

@@ -1,7 +1,7 @@
 -- The values so far are those of the texts so far.
 use Rattle.std.proofs.Common.{◌≡◌, map, take}
+use Rattle.part_file.proofs.Lists.{sighting_view}
 use Rattle.part_file.specs.Values.{sighting_data}
-use Rattle.part_file.specs.Views.{sighting_view}
 use Rattle.serde_json.specs.View.{view}
 use Rattle.part_file.proofs.values.sighting_values.Given as goal
 

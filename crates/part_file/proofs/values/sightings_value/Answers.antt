@@ -1,8 +1,8 @@
 -- The values of the texts, as one.
 use Rattle.std.proofs.Common.{◌∙◌, List, ap, map}
+use Rattle.part_file.proofs.Lists.{sighting_view}
 use Rattle.part_file.specs.Values.{sighting_data}
-use Rattle.part_file.specs.Views.{sighting_view}
-use Rattle.part_file.specs.declared.part.TextSeen.{TextSeen}
+use Rattle.search_text.specs.declared.joined.SeenText.{SeenText}
 use Rattle.serde_json.specs.Data.{Data, array}
 use Rattle.serde_json.specs.View.{items_of}
 use Rattle.part_file.proofs.values.sightings_value.Goals as goal
@@ -11,4 +11,4 @@ pub returns : goal.returns
 returns c =
     c.array_value.ensures
     ∙ ap (λ (all : List Data). array (items_of all)) (c.in_ok-values.ensures
-    ∙ ap (λ (all : List TextSeen). map sighting_data (map sighting_view all)) c.as_slice.ensures.value)
+    ∙ ap (λ (all : List SeenText). map sighting_data (map sighting_view all)) c.as_slice.ensures.value)
