@@ -1,14 +1,16 @@
--- What `check` warns of in a text that is read: text in its head that is passed over, and registers that are 0 all the
--- time.
+-- What `check` warns of in a text that is read: text in its head that is passed over, registers that are 0 all the time,
+-- and registers that have the name of a variable.
 use Rattle.std.specs.Prelude.{◌≡◌, ◌++◌, ℕ, suc, List, [], ◌∷◌, Option, None, Some, codes}
 use Rattle.std.specs.Fmt.{decimal}
 use Rattle.std.specs.List.{concat}
 use Rattle.litmus_lex.specs.Head.{IsHead}
 use Rattle.litmus_lex.specs.Lines.{column_at, line_at}
 use Rattle.litmus_syntax.specs.Tree.{Block, Program, Proposition, Task}
+use Rattle.litmus_syntax.specs.declared.program.Variable.{Variable}
 use Rattle.program_table.specs.text_pieces.Shown.{shown}
 use Rattle.check_notes.specs.HeadText.{text_in}
 use Rattle.check_notes.specs.Registers.{role_of}
+use Rattle.check_notes.specs.SameNames.{named, same_name_words}
 use Rattle.check_notes.specs.declared.registers.Role.{Role}
 use Rattle.check_notes.specs.declared.registers.Role.TheVariants as roles
 
@@ -17,30 +19,46 @@ unfoldable pub register_line : (file : List ℕ) → (task : ℕ) → (register 
 register_line file task register words = concat
     (shown file ∷ codes ": warning: `" ∷ shown register ∷ codes "` of P" ∷ decimal task ∷ words ∷ [])
 
--- the warning on a register that is this: one that is read or named by the condition, and never assigned, has one
-unfoldable pub warning_of : (file : List ℕ) → (task : ℕ) → (register : List ℕ) → Role → List ℕ
-warning_of file task register roles.Assigned = []
-warning_of file task register roles.Read = register_line file task register (codes " is read and never assigned: it is 0\n")
-warning_of file task register roles.Named =
+-- the line on a register of a task whose name this variable has
+unfoldable pub same_name_line : (file : List ℕ) → (task : ℕ) → Variable → List ℕ
+same_name_line file task variable = register_line file task variable.name (same_name_words task variable)
+
+-- the warning on a register that a statement assigns, beside the variable of its name, if the program has one
+unfoldable pub assigned_warning : (file : List ℕ) → (task : ℕ) → Option Variable → List ℕ
+assigned_warning file task None = []
+assigned_warning file task (Some variable) = same_name_line file task variable
+
+-- the warning on a register that a statement reads and none assigns, beside the variable of its name
+unfoldable pub read_warning : (file : List ℕ) → (task : ℕ) → (register : List ℕ) → Option Variable → List ℕ
+read_warning file task register None = register_line file task register (codes " is read and never assigned: it is 0\n")
+read_warning file task register (Some variable) = same_name_line file task variable
+
+-- the warning on a register that is this, beside the variable of its name: a register that a statement reads or assigns
+-- isn't that variable; one that is read or named by the condition is 0 where none assigns it
+unfoldable pub warning_of : (file : List ℕ) → (task : ℕ) → (register : List ℕ) → Option Variable → Role → List ℕ
+warning_of file task register variable roles.Assigned = assigned_warning file task variable
+warning_of file task register variable roles.Read = read_warning file task register variable
+warning_of file task register variable roles.Named =
     register_line file task register (codes " is named by the condition, and no statement reads or assigns it: it is 0\n")
-warning_of file task register roles.Unused = []
+warning_of file task register variable roles.Unused = []
 
--- the warnings on the registers of a task from this number on
-abbrev pub registers_from : (file : List ℕ) → (task : ℕ) → Block → Proposition → (number : ℕ) → List (List ℕ) → List ℕ
-registers_from file task body condition number [] = []
-registers_from file task body condition number (register ∷ more) =
-    warning_of file task register (role_of task number body condition)
-    ++ registers_from file task body condition (suc number) more
+-- the warnings on programs with these variables and this condition, in a file of this name
+module _ (file : List ℕ) (variables : List Variable) (condition : Proposition) where
+  -- the warnings on the registers of a task from this number on
+  abbrev pub registers_from : (task : ℕ) → Block → (number : ℕ) → List (List ℕ) → List ℕ
+  registers_from task body number [] = []
+  registers_from task body number (register ∷ more) =
+      warning_of file task register (named variables register) (role_of task number body condition)
+      ++ registers_from task body (suc number) more
 
--- the warnings on the registers of the tasks from this number on
-abbrev pub tasks_from : (file : List ℕ) → Proposition → (number : ℕ) → List Task → List ℕ
-tasks_from file condition number [] = []
-tasks_from file condition number (task ∷ more) =
-    registers_from file number task.body condition 0 task.registers ++ tasks_from file condition (suc number) more
+  -- the warnings on the registers of the tasks from this number on
+  abbrev pub tasks_from : (number : ℕ) → List Task → List ℕ
+  tasks_from number [] = []
+  tasks_from number (task ∷ more) = registers_from number task.body 0 task.registers ++ tasks_from (suc number) more
 
 -- the warnings on a program, in a file of this name
 unfoldable pub program_lines : (file : List ℕ) → Program → List ℕ
-program_lines file program = tasks_from file program.condition 0 program.tasks
+program_lines file program = tasks_from file program.variables program.condition 0 program.tasks
 
 -- the warning on text at this place of a head, in a file of this name
 unfoldable pub head_line : (file text : List ℕ) → Option ℕ → List ℕ

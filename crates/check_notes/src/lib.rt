@@ -2,10 +2,15 @@
 //! in the place of what is refused.
 #![tactic(auto)]
 
+mod call_notes;
+mod common_notes;
 mod head_text;
 mod note;
 mod registers;
+mod same_names;
+mod syntax_notes;
 mod warnings;
+mod words;
 
 pub use note::note_of;
 pub use warnings::text_warnings;

@@ -1,15 +1,17 @@
-//! What `check` warns of in a text that is read: text in its head that is passed over, and registers that are 0 all the
-//! time.
+//! What `check` warns of in a text that is read: text in its head that is passed over, registers that are 0 all the time,
+//! and registers that have the name of a variable.
 
 ghost use Rattle.std.specs.Prelude.{◌≡◌, ◌≤◌, IfOk, IfSome, length, map};
+ghost use Rattle.std.specs.Option.{option_map};
 ghost use Rattle.litmus_syntax.specs.Views.{block_of, program_of, proposition_of, task_of};
 ghost use Rattle.check_notes.specs.Warnings as spec;
 ghost use Rattle.check_notes.specs.Warnings.{AreWarningsOf};
 
 use crate::head_text::passed_text;
 use crate::registers::{Role, role_of};
+use crate::same_names::{named, same_name_words};
 use litmus_lex::{column_of, line_of};
-use litmus_syntax::{Name, Program, Proposition, Statement, Task};
+use litmus_syntax::{Name, Program, Proposition, Statement, Task, Variable};
 use program_table::text_pieces::{joined, number, shown};
 use std::alloc::{AllocError, Global};
 
@@ -20,7 +22,7 @@ fn register_line(
     file: &[u8],
     task: usize,
     register: &[u8],
-    words: &str,
+    words: &[u8],
 ) -> Result<Vec<u8>, AllocError>
     ensures { IfOk result (λ line. line.items ≡ spec.register_line file.now task register.now words.now) }
 {
@@ -29,44 +31,89 @@ fn register_line(
     let process = number(alloc, task)?;
     joined(
         alloc,
-        &[
-            &head,
-            b": warning: `",
-            &name,
-            b"` of P",
-            &process,
-            words.as_bytes(),
-        ],
+        &[&head, b": warning: `", &name, b"` of P", &process, words],
     )
 }
 
-/// The warning on a register of a task that is this, or nothing.
+/// The line on a register of a task, in a file of this name, whose name this variable has.
+#[tactic(auto, unfolding(crate::specs::Warnings::same_name_line))]
+fn same_name_line(
+    alloc: Global,
+    file: &[u8],
+    task: usize,
+    variable: &Variable,
+) -> Result<Vec<u8>, AllocError>
+    ensures { IfOk result (λ line. line.items ≡ spec.same_name_line file.now task variable.now) }
+{
+    let words = same_name_words(alloc, task, variable)?;
+    register_line(alloc, file, task, variable.name.as_str().as_bytes(), &words)
+}
+
+/// The warning on a register of a task that a statement assigns, beside the variable of its name, if the program has one.
+#[tactic(auto, unfolding(crate::specs::Warnings::assigned_warning))]
+fn assigned_warning(
+    alloc: Global,
+    file: &[u8],
+    task: usize,
+    variable: Option<&Variable>,
+) -> Result<Vec<u8>, AllocError>
+    ensures { IfOk result (λ line. line.items
+        ≡ spec.assigned_warning file.now task (option_map (λ variable. variable.now) variable.entry)) }
+{
+    match variable {
+        Some(variable) => same_name_line(alloc, file, task, variable),
+        None => Ok(Vec::new(alloc)),
+    }
+}
+
+/// The warning on a register of a task that a statement reads and none assigns, beside the variable of its name.
+#[tactic(auto, unfolding(crate::specs::Warnings::read_warning))]
+fn read_warning(
+    alloc: Global,
+    file: &[u8],
+    task: usize,
+    register: &[u8],
+    variable: Option<&Variable>,
+) -> Result<Vec<u8>, AllocError>
+    ensures { IfOk result (λ line. line.items
+        ≡ spec.read_warning file.now task register.now (option_map (λ variable. variable.now) variable.entry)) }
+{
+    match variable {
+        Some(variable) => same_name_line(alloc, file, task, variable),
+        None => register_line(
+            alloc,
+            file,
+            task,
+            register,
+            b" is read and never assigned: it is 0\n",
+        ),
+    }
+}
+
+/// The warning on a register of a task that is this, beside the variable of its name.
 #[tactic(auto, unfolding(crate::specs::Warnings::warning_of))]
 fn warning_of(
     alloc: Global,
     file: &[u8],
     task: usize,
     register: &[u8],
+    variable: Option<&Variable>,
     role: Role,
 ) -> Result<Vec<u8>, AllocError>
-    ensures { IfOk result (λ line. line.items ≡ spec.warning_of file.now task register.now role) }
+    ensures { IfOk result (λ line. line.items
+        ≡ spec.warning_of file.now task register.now (option_map (λ variable. variable.now) variable.entry) role) }
 {
     match role {
-        Role::Assigned | Role::Unused => Ok(Vec::new(alloc)),
-        Role::Read => register_line(
-            alloc,
-            file,
-            task,
-            register,
-            " is read and never assigned: it is 0\n",
-        ),
+        Role::Assigned => assigned_warning(alloc, file, task, variable),
+        Role::Read => read_warning(alloc, file, task, register, variable),
         Role::Named => register_line(
             alloc,
             file,
             task,
             register,
-            " is named by the condition, and no statement reads or assigns it: it is 0\n",
+            b" is named by the condition, and no statement reads or assigns it: it is 0\n",
         ),
+        Role::Unused => Ok(Vec::new(alloc)),
     }
 }
 
@@ -76,16 +123,18 @@ fn registers_lines(
     file: &[u8],
     task: usize,
     body: &[Statement],
-    condition: &Proposition,
+    program: &Program,
     registers: &[Name],
 ) -> Result<Vec<u8>, AllocError>
     ensures { IfOk result (λ lines. lines.items
-        ≡ spec.registers_from file.now task (block_of body.now) (proposition_of condition.now) 0 registers.now) }
+        ≡ spec.registers_from file.now program.now.variables (proposition_of program.now.condition) task (block_of body.now) 0 registers.now) }
 {
     let mut lines = Vec::new(alloc);
     for (number, register) in registers.iter().enumerate() {
-        let role = role_of(task, number, body, condition);
-        let line = warning_of(alloc, file, task, register.as_str().as_bytes(), role)?;
+        let role = role_of(task, number, body, &program.condition);
+        let variable = named(program.variables.as_slice(), register);
+        let name = register.as_str().as_bytes();
+        let line = warning_of(alloc, file, task, name, variable, role)?;
         lines.extend_from_slice(&line)?;
     }
     Ok(lines)
@@ -97,14 +146,15 @@ fn task_lines(
     file: &[u8],
     number: usize,
     task: &Task,
-    condition: &Proposition,
+    program: &Program,
 ) -> Result<Vec<u8>, AllocError>
     ensures { IfOk result (λ lines. lines.items
-        ≡ spec.registers_from file.now number (block_of task.now.body.items) (proposition_of condition.now) 0 task.now.registers) }
+        ≡ spec.registers_from file.now program.now.variables (proposition_of program.now.condition)
+        number (block_of task.now.body.items) 0 task.now.registers) }
 {
     let body = task.body.as_slice();
     let registers = task.registers.as_slice();
-    registers_lines(alloc, file, number, body, condition, registers)
+    registers_lines(alloc, file, number, body, program, registers)
 }
 
 /// The warnings on the registers of tasks.
@@ -112,26 +162,27 @@ fn tasks_lines(
     alloc: Global,
     file: &[u8],
     tasks: &[Task],
-    condition: &Proposition,
+    program: &Program,
 ) -> Result<Vec<u8>, AllocError>
     ensures { IfOk result (λ lines. lines.items
-        ≡ spec.tasks_from file.now (proposition_of condition.now) 0 (map task_of tasks.now)) }
+        ≡ spec.tasks_from file.now program.now.variables (proposition_of program.now.condition) 0 (map task_of tasks.now)) }
 {
     let mut lines = Vec::new(alloc);
     for (number, task) in tasks.iter().enumerate() {
-        let own = task_lines(alloc, file, number, task, condition)?;
+        let own = task_lines(alloc, file, number, task, program)?;
         lines.extend_from_slice(&own)?;
     }
     Ok(lines)
 }
 
-/// The warnings on a program, in a file of this name: a line for each register that no statement of its process
-/// assigns, and that one reads or the condition names.
+/// The warnings on a program, in a file of this name: a line for each register that has the name of a variable and
+/// stands in a statement, and for each other one that no statement of its process assigns, and that one reads or the
+/// condition names.
 #[tactic(auto, unfolding(crate::specs::Warnings::program_lines))]
 fn program_lines(alloc: Global, file: &[u8], program: &Program) -> Result<Vec<u8>, AllocError>
     ensures { IfOk result (λ lines. lines.items ≡ spec.program_lines file.now (program_of program.now)) }
 {
-    tasks_lines(alloc, file, program.tasks.as_slice(), &program.condition)
+    tasks_lines(alloc, file, program.tasks.as_slice(), program)
 }
 
 /// The warning on text at this place of a head, in a file of this name, or nothing.

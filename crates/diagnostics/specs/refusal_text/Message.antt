@@ -1,5 +1,5 @@
 -- What is said of a text that is refused.
-use Rattle.std.specs.Prelude.{◌≡◌, ℕ, List, [], ◌∷◌, codes}
+use Rattle.std.specs.Prelude.{◌≡◌, ℕ, List, [], ◌∷◌, codes, drop}
 use Rattle.std.specs.Fmt.{decimal}
 use Rattle.std.specs.List.{concat}
 use Rattle.litmus_lex.specs.Lines.{column_at, line_at}
@@ -52,7 +52,7 @@ expected_of (reasons.Unsupported unread expected) = expected_text expected
 unfoldable pub refusal_text : (name text : List ℕ) → (at : ℕ) → Reason → (token : List ℕ) → List ℕ
 refusal_text name text at reasons.OutOfMemory token = []
 refusal_text name text at reason token = concat
-    (heading name text at reason token ∷ excerpt text at ∷ expected_of reason ∷ note_of reason token (word_before text at) ∷ [])
+    (heading name text at reason token ∷ excerpt text at ∷ expected_of reason ∷ note_of reason token (word_before text at) (drop at text) ∷ [])
 
 -- what is said of a text that is refused at a place, in a file of this name
 pub record IsRefusalText (name text : List ℕ) (at : ℕ) (reason : Reason) (said : List ℕ) : Type 0 where

@@ -103,7 +103,8 @@ fn with_token(
     let first = heading(alloc, name, text, refused.at, refused.reason, token)?;
     let marked = excerpt(alloc, text, refused.at)?;
     let wanted = expected_of(alloc, refused.reason)?;
-    let note = note_of(refused.reason, token, word_before(text, refused.at));
+    let rest = &text[refused.at..];
+    let note = note_of(refused.reason, token, word_before(text, refused.at), rest);
     joined(alloc, &[&first, &marked, &wanted, note.as_bytes()])
 }
 

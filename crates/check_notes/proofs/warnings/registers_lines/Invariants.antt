@@ -6,5 +6,6 @@ use Rattle.check_notes.proofs.warnings.registers_lines.Given as goal
 
 abbrev pub invariant-loop-number : goal.invariant-loop-number
 invariant-loop-number l =
-    l.lines.items ++ registers_from l.file l.task (block_of l.body) (proposition_of l.condition) l.number (drop l.number l.registers)
-    ≡ registers_from l.file l.task (block_of l.body) (proposition_of l.condition) 0 l.registers
+    l.lines.items
+    ++ registers_from l.file l.program.variables (proposition_of l.program.condition) l.task (block_of l.body) l.number (drop l.number l.registers)
+    ≡ registers_from l.file l.program.variables (proposition_of l.program.condition) l.task (block_of l.body) 0 l.registers

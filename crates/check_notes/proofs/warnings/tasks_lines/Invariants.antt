@@ -6,5 +6,6 @@ use Rattle.check_notes.proofs.warnings.tasks_lines.Given as goal
 
 abbrev pub invariant-loop-number : goal.invariant-loop-number
 invariant-loop-number l =
-    l.lines.items ++ tasks_from l.file (proposition_of l.condition) l.number (map task_of (drop l.number l.tasks))
-    ≡ tasks_from l.file (proposition_of l.condition) 0 (map task_of l.tasks)
+    l.lines.items
+    ++ tasks_from l.file l.program.variables (proposition_of l.program.condition) l.number (map task_of (drop l.number l.tasks))
+    ≡ tasks_from l.file l.program.variables (proposition_of l.program.condition) 0 (map task_of l.tasks)

@@ -1,0 +1,288 @@
+-- What to write in the place of a token that isn't of this format.
+use Rattle.std.specs.Prelude.{◌||◌, ℕ, Bool, List, [], ◌∷◌, bytes_eq, codes, drop, if◌then◌else◌, length}
+use Rattle.check_notes.specs.CommonNotes.{bare_note, block_note, compared_note, const_note, element_note, field_note, implied_note, increase_note, join_note, jump_note, name_note, number_note, sequence_note, star_note, tilde_note, value_note}
+use Rattle.check_notes.specs.Words.{begins, has_eight_bytes, has_four_bytes, has_one_byte, has_two_bytes, is_atomic_type, is_jump, is_lock_type, is_number, is_operator, is_sequence_type, is_suffix, is_type}
+use Rattle.litmus_lex.specs.declared.reason.Expected.{Expected}
+use Rattle.litmus_lex.specs.declared.reason.Expected.TheVariants as places
+use Rattle.litmus_lex.specs.declared.reason.Fault.{Fault}
+use Rattle.litmus_lex.specs.declared.reason.Fault.TheVariants as faults
+use Rattle.litmus_lex.specs.declared.sign.Sign.{Sign}
+use Rattle.litmus_lex.specs.declared.sign.Sign.TheVariants as signs
+
+-- which type is read in the place of one of these
+unfoldable pub type_note : List ℕ → List ℕ
+type_note word =
+    if has_one_byte word then codes "note: the type of 1 byte is `char`, with a sign\n"
+    else if has_two_bytes word then codes "note: the type of 2 bytes is `short`, with a sign\n"
+    else if has_four_bytes word then codes "note: the type of 4 bytes is `int`, with a sign\n"
+    else if has_eight_bytes word then codes "note: the type of 8 bytes is `long`, with a sign\n"
+    else if is_lock_type word then codes "note: a lock is a `spinlock_t`\n"
+    else if is_sequence_type word then sequence_note
+    else if is_atomic_type word then codes "note: an atomic variable is an `atomic_t`, of 4 bytes\n"
+    else []
+
+-- a word or an operator that joins conditions in C
+unfoldable pub joins : List ℕ → Bool
+joins token = bytes_eq token (codes "&&") || bytes_eq token (codes "||") || bytes_eq token (codes "and")
+    || bytes_eq token (codes "or")
+
+-- an arrow of a condition
+unfoldable pub implies : List ℕ → Bool
+implies rest = begins rest (codes "->") || begins rest (codes "=>")
+
+-- a comparison of C, or the end of what would be one
+unfoldable pub compares : List ℕ → Bool
+compares token = bytes_eq token (codes "<") || bytes_eq token (codes ">") || bytes_eq token (codes "<=")
+    || bytes_eq token (codes ">=") || bytes_eq token (codes ")")
+
+-- behind a number: an operator of C in the condition or where nothing is computed, or a suffix
+unfoldable pub behind_number : List ℕ → List ℕ → List ℕ
+behind_number token rest =
+    if joins token then join_note
+    else if implies rest then implied_note
+    else if is_operator token then number_note
+    else if is_suffix token then codes "note: a number has no suffix\n"
+    else if bytes_eq token (codes ",") then codes "note: `;` stands between, as in `int x = 1; int y = 2;`\n"
+    else if begins token (codes "b")
+    then codes "note: a number is decimal, or hexadecimal behind 0x: for 0b11 write 3\n"
+    else []
+
+-- behind a register: its assignment, its value in the condition, or a label
+unfoldable pub register_note : List ℕ → List ℕ → List ℕ
+register_note token rest =
+    if bytes_eq token (codes ":") then jump_note
+    else if begins rest (codes "->") then field_note
+    else if bytes_eq token (codes "-") then codes "note: write `r0 = r0 - 1`\n"
+    else if is_operator token || bytes_eq token (codes "+=")
+    then codes "note: a register is assigned by `=` alone, as `r0 = r0 | 1`; in the condition `=` alone compares\n"
+    else if bytes_eq token (codes "==") then codes "note: it is one `=`, as `exists (0:r0=1)`\n"
+    else if bytes_eq token (codes "!=") then tilde_note
+    else if compares token then compared_note
+    else []
+
+-- behind a statement, as `*x`
+unfoldable pub statement_note : List ℕ → List ℕ → List ℕ
+statement_note token rest =
+    if begins rest (codes "->") then field_note
+    else if bytes_eq token (codes "-") then codes "note: for `-=` and `--` write `*x += -1`\n"
+    else if bytes_eq token (codes ",") then codes "note: a declaration gives one value: `int r0 = 1; int r1 = 2;`\n"
+    else if is_operator token
+    then codes "note: with an operator there is `+=` alone, which is one access as `|=` is; `r0 = *x | 1; *x = r0;` is two\n"
+    else []
+
+-- behind `(*x)`
+unfoldable pub increment_note : List ℕ → List ℕ → List ℕ
+increment_note token rest =
+    if begins rest (codes "->") then field_note
+    else if bytes_eq token (codes "-") then codes "note: for `-=` and `--` write `*x += -1`\n"
+    else codes "note: `(*x)++` alone has parentheses: write `*x = 1` or `*x += 1`\n"
+
+-- in the place of a `*`: a cast, or a variable
+unfoldable pub unstarred_note : List ℕ → List ℕ
+unstarred_note token =
+    if bytes_eq token (codes "void") then codes "note: a load is a statement without a cast\n"
+    else star_note
+
+-- behind the condition, or a part of it
+unfoldable pub joined_note : List ℕ → List ℕ → List ℕ
+joined_note token rest =
+    if joins token then join_note
+    else if implies rest then implied_note
+    else if bytes_eq token (codes "=")
+    then codes "note: an assignment is a statement of its own, as `r0 = *x;` before the `if`\n"
+    else if bytes_eq token (codes ";") then codes "note: no `;` stands behind the condition\n"
+    else []
+
+-- an arrow behind this word, or behind a parenthesis
+unfoldable pub arrow_note : List ℕ → List ℕ
+arrow_note [] = implied_note
+arrow_note (first ∷ others) = field_note
+
+-- behind a variable in a call, or a part of the condition in parentheses
+unfoldable pub closing_note : List ℕ → List ℕ → List ℕ → List ℕ
+closing_note token before rest =
+    if begins rest (codes "->") then arrow_note before
+    else joined_note token rest
+
+-- what to write where this sign is expected
+unfoldable pub sign_note : Sign → (token before rest : List ℕ) → List ℕ
+sign_note signs.Assign token before rest = register_note token rest
+sign_note signs.Semicolon token before rest = statement_note token rest
+sign_note signs.Increment token before rest = increment_note token rest
+sign_note signs.Star token before rest = unstarred_note token
+sign_note signs.CloseParen token before rest = closing_note token before rest
+sign_note signs.Comma token before rest = closing_note token before rest
+sign_note sign token before rest = []
+
+-- in the place of a variable's name
+unfoldable pub starred_note : List ℕ → List ℕ
+starred_note token =
+    if bytes_eq token (codes "*") then name_note
+    else if is_number token
+    then codes "note: the variable comes first, as in `atomic_set(f, 1)` and `xchg(x, 1)`, and last in `atomic_add(1, f)`\n"
+    else []
+
+-- in the place of the type of a parameter
+unfoldable pub parameter_note : List ℕ → List ℕ
+parameter_note token =
+    if bytes_eq token (codes "const") then const_note
+    else if bytes_eq token (codes "void") then codes "note: a process without variables begins with `P0()`\n"
+    else type_note token
+
+-- a word that C has before a function
+unfoldable pub is_before_function : List ℕ → Bool
+is_before_function token = bytes_eq token (codes "static") || bytes_eq token (codes "void")
+    || bytes_eq token (codes "int")
+
+-- a word or a sign that would deny what comes
+unfoldable pub denies : List ℕ → Bool
+denies token = bytes_eq token (codes "never") || bytes_eq token (codes "not") || bytes_eq token (codes "!")
+
+-- in the place of a process or of the condition
+unfoldable pub process_note : List ℕ → List ℕ
+process_note token =
+    if is_before_function token
+    then codes "note: no word stands before `P0`, and statements of another function stand in the processes themselves\n"
+    else if denies token then codes "note: that it never comes is asked by `~exists (0:r0=1)`\n"
+    else if bytes_eq token (codes ";")
+    then codes "note: the first `{` begins the initialization block, so no structure stands before it; no `;` stands behind a process\n"
+    else if bytes_eq token (codes "always") then codes "note: that it always comes is asked by `forall (0:r0=1)`\n"
+    else if begins token (codes "P") || begins token (codes "p")
+    then codes "note: processes are P0, P1 and so on, in this order and without a gap\n"
+    else []
+
+-- in the place of a proposition
+unfoldable pub proposition_note : List ℕ → List ℕ
+proposition_note token =
+    if bytes_eq token (codes "!") then tilde_note
+    else if bytes_eq token (codes "*") then bare_note
+    else []
+
+-- a type that is read
+unfoldable pub is_read_type : List ℕ → Bool
+is_read_type token = bytes_eq token (codes "int") || bytes_eq token (codes "long") || bytes_eq token (codes "char")
+    || bytes_eq token (codes "short")
+
+-- in the place of an expression: a field, or a cast
+unfoldable pub expression_note : List ℕ → List ℕ
+expression_note token =
+    if bytes_eq token (codes ">") then field_note
+    else if is_read_type token then codes "note: no cast is read: leave it out\n"
+    else []
+
+-- behind an item
+unfoldable pub item_end_note : List ℕ → List ℕ
+item_end_note token =
+    if bytes_eq token (codes ",") then codes "note: each variable is an item of its own, as `int x; int y;`\n"
+    else if bytes_eq token (codes ":")
+    then codes "note: bits of a word have no names: each is a variable of its own, or a number, as in `READ_ONCE(*x) & 2`\n"
+    else []
+
+-- in the place of an item
+unfoldable pub item_note : List ℕ → List ℕ
+item_note token =
+    if bytes_eq token (codes ")") || bytes_eq token (codes ",") || bytes_eq token (codes "]") then []
+    else block_note
+
+-- in the place of an initial value
+unfoldable pub initial_note : List ℕ → List ℕ
+initial_note token =
+    if bytes_eq token (codes "*") then block_note
+    else []
+
+-- in the place of a statement
+unfoldable pub statement_place_note : List ℕ → List ℕ
+statement_place_note token =
+    if bytes_eq token (codes "{") then codes "note: a block stands behind `if (..)`, `else` or `for (..)` alone\n"
+    else []
+
+-- what to write where this is expected
+unfoldable pub place_note : Expected → (token before rest : List ℕ) → List ℕ
+place_note places.Number token before rest = value_note
+place_note places.Type token before rest = parameter_note token
+place_note places.Expression token before rest = expression_note token
+place_note places.ItemEnd token before rest = item_end_note token
+place_note places.Variable token before rest = item_note token
+place_note places.Value token before rest = initial_note token
+place_note places.Statement token before rest = statement_place_note token
+place_note places.Process token before rest = process_note token
+place_note places.Condition token before rest = process_note token
+place_note places.Proposition token before rest = proposition_note token
+place_note places.End token before rest = joined_note token rest
+place_note places.Operator token before rest = joined_note token rest
+place_note places.IntegerVariable token before rest = starred_note token
+place_note places.AtomicVariable token before rest = starred_note token
+place_note places.LockVariable token before rest = starred_note token
+place_note places.MemoryVariable token before rest = starred_note token
+place_note (places.Sign sign) token before rest = sign_note sign token before rest
+place_note expected token before rest = []
+
+-- a value that C has a word for
+unfoldable pub is_truth : List ℕ → Bool
+is_truth token = bytes_eq token (codes "true") || bytes_eq token (codes "false")
+
+-- what to write in the place of a token behind this word, which the program takes for a register or a variable, or
+-- behind this number; the text goes on with these bytes from the token on
+unfoldable pub token_note : Expected → (token before rest : List ℕ) → List ℕ
+token_note expected token before rest =
+    if is_jump before then jump_note
+    else if is_type before then type_note before
+    else if is_number before then behind_number token rest
+    else if bytes_eq before (codes "const") then const_note
+    else if bytes_eq token (codes "++") then increase_note
+    else if is_truth token then codes "note: write 1 for `true`, and 0 for `false`\n"
+    else if bytes_eq token (codes "[") then element_note
+    else place_note expected token before rest
+
+-- in the place of a variable that the process, or of one that the text, doesn't have
+unfoldable pub unknown_note : Expected → (token : List ℕ) → List ℕ
+unknown_note places.Variable token =
+    if bytes_eq token (codes "not") then tilde_note
+    else codes "note: a register stands behind its process, as `0:r0`; a variable is an item, as `{ int x; }`, or a parameter\n"
+unknown_note expected token =
+    codes "note: a process has its variables as parameters, as `P0(int *x)`; a pointer in a register is a number: `if (r0) r1 = *b;`\n"
+
+-- in the place of a sign that begins no token
+unfoldable pub stray_note : List ℕ → List ℕ
+stray_note token =
+    if bytes_eq token (codes "#") then codes "note: no macro is read: write in its place what it stands for\n"
+    else if bytes_eq token (codes ".") then field_note
+    else []
+
+-- what stands behind a token, where the text goes on with these bytes from it on
+unfoldable pub behind_token : (token rest : List ℕ) → List ℕ
+behind_token token rest = drop (length token) rest
+
+-- in the place of a variable of the process, which these bytes follow
+unfoldable pub variable_note : List ℕ → List ℕ
+variable_note behind =
+    if begins behind (codes "++") then increase_note
+    else if begins behind (codes ",")
+    then codes "note: a value is a number or a register, as `r0 = *x;` gives; `atomic_add(1, f)` has the variable last\n"
+    else codes "note: its memory is read and written as `*x`, or by a call, as `WRITE_ONCE(*x, 1)`\n"
+
+-- in the place of a comment that goes on to the end
+unfoldable pub comment_note : Expected → List ℕ
+comment_note places.Proposition = bare_note
+comment_note expected = []
+
+-- what to write where a text has this fault
+unfoldable pub fault_note : Fault → Expected → (token before rest : List ℕ) → List ℕ
+fault_note faults.Token expected token before rest = token_note expected token before rest
+fault_note faults.Variable expected token before rest = variable_note (behind_token token rest)
+fault_note faults.Unknown expected token before rest = unknown_note expected token
+fault_note faults.Stray expected token before rest = stray_note token
+fault_note faults.Unclosed expected token before rest = comment_note expected
+fault_note fault expected token before rest = []
+
+-- a field or an element of what stands before it begins so
+unfoldable pub is_part : List ℕ → Bool
+is_part behind = begins behind (codes "->") || begins behind (codes ".") || begins behind (codes "[")
+
+-- what to write in the place of a field or an element that begins so
+unfoldable pub part_note : List ℕ → List ℕ
+part_note behind =
+    if begins behind (codes "->counter") || begins behind (codes ".counter")
+    then codes "note: it is the value of the `atomic_t *f` itself: write `atomic_read(f)`, `atomic_set(f, 1)` or `atomic_add(1, f)`\n"
+    else if begins behind (codes "[") then element_note
+    else field_note

@@ -1,0 +1,156 @@
+//! Lines that more than one refusal ends with.
+
+ghost use Rattle.std.specs.Prelude.{◌≡◌};
+ghost use Rattle.check_notes.specs.CommonNotes as spec;
+
+/// That nothing jumps.
+#[tactic(auto, unfolding(crate::specs::CommonNotes::jump_note))]
+pub(crate) fn jump_note() -> &'static str
+    ensures { result.now ≡ spec.jump_note }
+{
+    "note: no jump is read: write an `if` round what it would skip\n"
+}
+
+/// That nothing is computed.
+#[tactic(auto, unfolding(crate::specs::CommonNotes::number_note))]
+pub(crate) fn number_note() -> &'static str
+    ensures { result.now ≡ spec.number_note }
+{
+    "note: write the number itself, as 0x1\n"
+}
+
+/// That a variable stands without `*` and `&`.
+#[tactic(auto, unfolding(crate::specs::CommonNotes::name_note))]
+pub(crate) fn name_note() -> &'static str
+    ensures { result.now ≡ spec.name_note }
+{
+    "note: write the name alone, as in `spin_lock(l)`\n"
+}
+
+/// That a variable stands behind `*`.
+#[tactic(auto, unfolding(crate::specs::CommonNotes::star_note))]
+pub(crate) fn star_note() -> &'static str
+    ensures { result.now ≡ spec.star_note }
+{
+    "note: `*` stands before the variable, as in `int *x` and `READ_ONCE(*x)`\n"
+}
+
+/// A wait ends.
+#[tactic(auto, unfolding(crate::specs::CommonNotes::wait_note))]
+pub(crate) fn wait_note() -> &'static str
+    ensures { result.now ≡ spec.wait_note }
+{
+    "note: a wait has a number of tries: `for (i = 0; i < 3; i++) if (!r0) r0 = READ_ONCE(*x);`, and `if (r0) { .. }` round what follows\n"
+}
+
+/// That `~` is what says that something isn't so.
+#[tactic(auto, unfolding(crate::specs::CommonNotes::tilde_note))]
+pub(crate) fn tilde_note() -> &'static str
+    ensures { result.now ≡ spec.tilde_note }
+{
+    "note: in the condition `~` stands before what isn't so, as `~0:r0=1`\n"
+}
+
+/// A field has no name of its own here.
+#[tactic(auto, unfolding(crate::specs::CommonNotes::field_note))]
+pub(crate) fn field_note() -> &'static str
+    ensures { result.now ≡ spec.field_note }
+{
+    "note: a field is a variable of its own: for `p->f` write `*p_f`, of an `int *p_f`\n"
+}
+
+/// An element has no name of its own here.
+#[tactic(auto, unfolding(crate::specs::CommonNotes::element_note))]
+pub(crate) fn element_note() -> &'static str
+    ensures { result.now ≡ spec.element_note }
+{
+    "note: there are no arrays: each element is a variable of its own, as `*x0` of an `int *x0`\n"
+}
+
+/// A pointer is a number.
+#[tactic(auto, unfolding(crate::specs::CommonNotes::pointer_note))]
+pub(crate) fn pointer_note() -> &'static str
+    ensures { result.now ≡ spec.pointer_note }
+{
+    "note: a pointer is a number here, 1 for `&b` and 0 for NULL; what it points to is read as `if (r0) r1 = *b;`\n"
+}
+
+/// A number stands in the place of an address.
+#[tactic(auto, unfolding(crate::specs::CommonNotes::value_note))]
+pub(crate) fn value_note() -> &'static str
+    ensures { result.now ≡ spec.value_note }
+{
+    "note: write the number itself, as 0x1; a pointer is a number here, 1 for `&b` and 0 for NULL\n"
+}
+
+/// In the condition `/\` and `\/` join.
+#[tactic(auto, unfolding(crate::specs::CommonNotes::join_note))]
+pub(crate) fn join_note() -> &'static str
+    ensures { result.now ≡ spec.join_note }
+{
+    "note: in the condition `/\\` is and, `\\/` is or, as `exists (x=1 /\\ 0:r0=0)`\n"
+}
+
+/// In the condition nothing is implied.
+#[tactic(auto, unfolding(crate::specs::CommonNotes::implied_note))]
+pub(crate) fn implied_note() -> &'static str
+    ensures { result.now ≡ spec.implied_note }
+{
+    "note: in the condition write `~p \\/ q` for `p -> q`\n"
+}
+
+/// In the condition `=` alone compares.
+#[tactic(auto, unfolding(crate::specs::CommonNotes::compared_note))]
+pub(crate) fn compared_note() -> &'static str
+    ensures { result.now ≡ spec.compared_note }
+{
+    "note: in the condition `=` alone compares, as `x=1`; for another comparison keep it in a register, as `r1 = r0 > 1;`\n"
+}
+
+/// What a sequence count is.
+#[tactic(auto, unfolding(crate::specs::CommonNotes::sequence_note))]
+pub(crate) fn sequence_note() -> &'static str
+    ensures { result.now ≡ spec.sequence_note }
+{
+    "note: a sequence count is an `int *seq`; a sequence lock is one and a `spinlock_t *l`\n"
+}
+
+/// A word that changes nothing here.
+#[tactic(auto, unfolding(crate::specs::CommonNotes::const_note))]
+pub(crate) fn const_note() -> &'static str
+    ensures { result.now ≡ spec.const_note }
+{
+    "note: leave out `const`\n"
+}
+
+/// How one is added.
+#[tactic(auto, unfolding(crate::specs::CommonNotes::increase_note))]
+pub(crate) fn increase_note() -> &'static str
+    ensures { result.now ≡ spec.increase_note }
+{
+    "note: write `(*x)++`, or `r0 = r0 + 1`\n"
+}
+
+/// A variable of the condition has no `*`.
+#[tactic(auto, unfolding(crate::specs::CommonNotes::bare_note))]
+pub(crate) fn bare_note() -> &'static str
+    ensures { result.now ≡ spec.bare_note }
+{
+    "note: in the condition a variable stands without `*`, as `x=1`; `(*` begins a comment\n"
+}
+
+/// Where the initialization block begins.
+#[tactic(auto, unfolding(crate::specs::CommonNotes::block_note))]
+pub(crate) fn block_note() -> &'static str
+    ensures { result.now ≡ spec.block_note }
+{
+    "note: this is the initialization block, which begins at the first `{`: write `{ }` before `P0`\n"
+}
+
+/// The calls that an atomic variable has.
+#[tactic(auto, unfolding(crate::specs::CommonNotes::atomic_note))]
+pub(crate) fn atomic_note() -> &'static str
+    ensures { result.now ≡ spec.atomic_note }
+{
+    "note: an `atomic_t` has atomic_read, atomic_set, atomic_add, atomic_inc and atomic_dec; other changes are `cmpxchg` of an `int` in each task\n"
+}

@@ -1,0 +1,556 @@
+//! What to write in the place of a token that isn't of this format.
+
+ghost use Rattle.std.specs.Prelude.{◌≡◌};
+ghost use Rattle.check_notes.specs.SyntaxNotes as spec;
+
+use crate::common_notes::{
+    bare_note, block_note, compared_note, const_note, element_note, field_note, implied_note,
+    increase_note, join_note, jump_note, name_note, number_note, sequence_note, star_note,
+    tilde_note, value_note,
+};
+use crate::words::{
+    has_eight_bytes, has_four_bytes, has_one_byte, has_two_bytes, is_atomic_type, is_jump,
+    is_lock_type, is_number, is_operator, is_sequence_type, is_suffix, is_type,
+};
+use litmus_lex::{Expected, Fault, Sign};
+
+/// Which type is read in the place of a word that is a type of the kernel.
+#[tactic(auto, unfolding(crate::specs::SyntaxNotes::type_note))]
+fn type_note(word: &[u8]) -> &'static str
+    ensures { result.now ≡ spec.type_note word.now }
+{
+    if has_one_byte(word) {
+        return "note: the type of 1 byte is `char`, with a sign\n";
+    }
+    if has_two_bytes(word) {
+        return "note: the type of 2 bytes is `short`, with a sign\n";
+    }
+    if has_four_bytes(word) {
+        return "note: the type of 4 bytes is `int`, with a sign\n";
+    }
+    if has_eight_bytes(word) {
+        return "note: the type of 8 bytes is `long`, with a sign\n";
+    }
+    if is_lock_type(word) {
+        return "note: a lock is a `spinlock_t`\n";
+    }
+    if is_sequence_type(word) {
+        return sequence_note();
+    }
+    if is_atomic_type(word) {
+        return "note: an atomic variable is an `atomic_t`, of 4 bytes\n";
+    }
+    ""
+}
+
+/// A word or an operator that joins conditions in C.
+#[tactic(auto, unfolding(crate::specs::SyntaxNotes::joins))]
+fn joins(token: &[u8]) -> bool
+    ensures { result ≡ spec.joins token.now }
+{
+    token == b"&&".as_slice()
+        || token == b"||".as_slice()
+        || token == b"and".as_slice()
+        || token == b"or".as_slice()
+}
+
+/// An arrow of a condition.
+#[tactic(auto, unfolding(crate::specs::SyntaxNotes::implies))]
+fn implies(rest: &[u8]) -> bool
+    ensures { result ≡ spec.implies rest.now }
+{
+    rest.starts_with(b"->") || rest.starts_with(b"=>")
+}
+
+/// A comparison of C, or the end of what would be one.
+#[tactic(auto, unfolding(crate::specs::SyntaxNotes::compares))]
+fn compares(token: &[u8]) -> bool
+    ensures { result ≡ spec.compares token.now }
+{
+    token == b"<".as_slice()
+        || token == b">".as_slice()
+        || token == b"<=".as_slice()
+        || token == b">=".as_slice()
+        || token == b")".as_slice()
+}
+
+/// Behind a number: an operator of C in the condition or where nothing is computed, or a suffix.
+#[tactic(auto, unfolding(crate::specs::SyntaxNotes::behind_number))]
+fn behind_number(token: &[u8], rest: &[u8]) -> &'static str
+    ensures { result.now ≡ spec.behind_number token.now rest.now }
+{
+    if joins(token) {
+        return join_note();
+    }
+    if implies(rest) {
+        return implied_note();
+    }
+    if is_operator(token) {
+        return number_note();
+    }
+    if is_suffix(token) {
+        return "note: a number has no suffix\n";
+    }
+    if token == b",".as_slice() {
+        return "note: `;` stands between, as in `int x = 1; int y = 2;`\n";
+    }
+    if token.starts_with(b"b") {
+        return "note: a number is decimal, or hexadecimal behind 0x: for 0b11 write 3\n";
+    }
+    ""
+}
+
+/// Behind a register: its assignment, its value in the condition, or a label.
+#[tactic(auto, unfolding(crate::specs::SyntaxNotes::register_note))]
+fn register_note(token: &[u8], rest: &[u8]) -> &'static str
+    ensures { result.now ≡ spec.register_note token.now rest.now }
+{
+    if token == b":".as_slice() {
+        return jump_note();
+    }
+    if rest.starts_with(b"->") {
+        return field_note();
+    }
+    if token == b"-".as_slice() {
+        return "note: write `r0 = r0 - 1`\n";
+    }
+    if is_operator(token) || token == b"+=".as_slice() {
+        return "note: a register is assigned by `=` alone, as `r0 = r0 | 1`; in the condition `=` alone compares\n";
+    }
+    if token == b"==".as_slice() {
+        return "note: it is one `=`, as `exists (0:r0=1)`\n";
+    }
+    if token == b"!=".as_slice() {
+        return tilde_note();
+    }
+    if compares(token) {
+        return compared_note();
+    }
+    ""
+}
+
+/// Behind a statement, as `*x`.
+#[tactic(auto, unfolding(crate::specs::SyntaxNotes::statement_note))]
+fn statement_note(token: &[u8], rest: &[u8]) -> &'static str
+    ensures { result.now ≡ spec.statement_note token.now rest.now }
+{
+    if rest.starts_with(b"->") {
+        return field_note();
+    }
+    if token == b"-".as_slice() {
+        return "note: for `-=` and `--` write `*x += -1`\n";
+    }
+    if token == b",".as_slice() {
+        return "note: a declaration gives one value: `int r0 = 1; int r1 = 2;`\n";
+    }
+    if is_operator(token) {
+        return "note: with an operator there is `+=` alone, which is one access as `|=` is; `r0 = *x | 1; *x = r0;` is two\n";
+    }
+    ""
+}
+
+/// Behind `(*x)`.
+#[tactic(auto, unfolding(crate::specs::SyntaxNotes::increment_note))]
+fn increment_note(token: &[u8], rest: &[u8]) -> &'static str
+    ensures { result.now ≡ spec.increment_note token.now rest.now }
+{
+    if rest.starts_with(b"->") {
+        return field_note();
+    }
+    if token == b"-".as_slice() {
+        return "note: for `-=` and `--` write `*x += -1`\n";
+    }
+    "note: `(*x)++` alone has parentheses: write `*x = 1` or `*x += 1`\n"
+}
+
+/// In the place of a `*`: a cast, or a variable.
+#[tactic(auto, unfolding(crate::specs::SyntaxNotes::unstarred_note))]
+fn unstarred_note(token: &[u8]) -> &'static str
+    ensures { result.now ≡ spec.unstarred_note token.now }
+{
+    if token == b"void".as_slice() {
+        return "note: a load is a statement without a cast\n";
+    }
+    star_note()
+}
+
+/// Behind the condition, or a part of it.
+#[tactic(auto, unfolding(crate::specs::SyntaxNotes::joined_note))]
+fn joined_note(token: &[u8], rest: &[u8]) -> &'static str
+    ensures { result.now ≡ spec.joined_note token.now rest.now }
+{
+    if joins(token) {
+        return join_note();
+    }
+    if implies(rest) {
+        return implied_note();
+    }
+    if token == b"=".as_slice() {
+        return "note: an assignment is a statement of its own, as `r0 = *x;` before the `if`\n";
+    }
+    if token == b";".as_slice() {
+        return "note: no `;` stands behind the condition\n";
+    }
+    ""
+}
+
+/// An arrow behind this word, or behind a parenthesis.
+#[tactic(auto, unfolding(crate::specs::SyntaxNotes::arrow_note))]
+fn arrow_note(before: &[u8]) -> &'static str
+    ensures { result.now ≡ spec.arrow_note before.now }
+{
+    match before {
+        [] => implied_note(),
+        [_, ..] => field_note(),
+    }
+}
+
+/// Behind a variable in a call, or a part of the condition in parentheses.
+#[tactic(auto, unfolding(crate::specs::SyntaxNotes::closing_note))]
+fn closing_note(token: &[u8], before: &[u8], rest: &[u8]) -> &'static str
+    ensures { result.now ≡ spec.closing_note token.now before.now rest.now }
+{
+    if rest.starts_with(b"->") {
+        return arrow_note(before);
+    }
+    joined_note(token, rest)
+}
+
+/// What to write where this sign is expected.
+#[tactic(auto, unfolding(crate::specs::SyntaxNotes::sign_note))]
+fn sign_note(sign: Sign, token: &[u8], before: &[u8], rest: &[u8]) -> &'static str
+    ensures { result.now ≡ spec.sign_note sign token.now before.now rest.now }
+{
+    match sign {
+        Sign::Assign => register_note(token, rest),
+        Sign::Semicolon => statement_note(token, rest),
+        Sign::Increment => increment_note(token, rest),
+        Sign::Star => unstarred_note(token),
+        Sign::CloseParen | Sign::Comma => closing_note(token, before, rest),
+        _ => "",
+    }
+}
+
+/// In the place of a variable's name.
+#[tactic(auto, unfolding(crate::specs::SyntaxNotes::starred_note))]
+fn starred_note(token: &[u8]) -> &'static str
+    ensures { result.now ≡ spec.starred_note token.now }
+{
+    if token == b"*".as_slice() {
+        return name_note();
+    }
+    if is_number(token) {
+        return "note: the variable comes first, as in `atomic_set(f, 1)` and `xchg(x, 1)`, and last in `atomic_add(1, f)`\n";
+    }
+    ""
+}
+
+/// In the place of the type of a parameter.
+#[tactic(auto, unfolding(crate::specs::SyntaxNotes::parameter_note))]
+fn parameter_note(token: &[u8]) -> &'static str
+    ensures { result.now ≡ spec.parameter_note token.now }
+{
+    if token == b"const".as_slice() {
+        return const_note();
+    }
+    if token == b"void".as_slice() {
+        return "note: a process without variables begins with `P0()`\n";
+    }
+    type_note(token)
+}
+
+/// A word that C has before a function.
+#[tactic(auto, unfolding(crate::specs::SyntaxNotes::is_before_function))]
+fn is_before_function(token: &[u8]) -> bool
+    ensures { result ≡ spec.is_before_function token.now }
+{
+    token == b"static".as_slice() || token == b"void".as_slice() || token == b"int".as_slice()
+}
+
+/// A word or a sign that would deny what comes.
+#[tactic(auto, unfolding(crate::specs::SyntaxNotes::denies))]
+fn denies(token: &[u8]) -> bool
+    ensures { result ≡ spec.denies token.now }
+{
+    token == b"never".as_slice() || token == b"not".as_slice() || token == b"!".as_slice()
+}
+
+/// In the place of a process or of the condition.
+#[tactic(auto, unfolding(crate::specs::SyntaxNotes::process_note))]
+fn process_note(token: &[u8]) -> &'static str
+    ensures { result.now ≡ spec.process_note token.now }
+{
+    if is_before_function(token) {
+        return "note: no word stands before `P0`, and statements of another function stand in the processes themselves\n";
+    }
+    if denies(token) {
+        return "note: that it never comes is asked by `~exists (0:r0=1)`\n";
+    }
+    if token == b";".as_slice() {
+        return "note: the first `{` begins the initialization block, so no structure stands before it; no `;` stands behind a process\n";
+    }
+    if token == b"always".as_slice() {
+        return "note: that it always comes is asked by `forall (0:r0=1)`\n";
+    }
+    if token.starts_with(b"P") || token.starts_with(b"p") {
+        return "note: processes are P0, P1 and so on, in this order and without a gap\n";
+    }
+    ""
+}
+
+/// In the place of a proposition.
+#[tactic(auto, unfolding(crate::specs::SyntaxNotes::proposition_note))]
+fn proposition_note(token: &[u8]) -> &'static str
+    ensures { result.now ≡ spec.proposition_note token.now }
+{
+    if token == b"!".as_slice() {
+        return tilde_note();
+    }
+    if token == b"*".as_slice() {
+        return bare_note();
+    }
+    ""
+}
+
+/// A type that is read.
+#[tactic(auto, unfolding(crate::specs::SyntaxNotes::is_read_type))]
+fn is_read_type(token: &[u8]) -> bool
+    ensures { result ≡ spec.is_read_type token.now }
+{
+    token == b"int".as_slice()
+        || token == b"long".as_slice()
+        || token == b"char".as_slice()
+        || token == b"short".as_slice()
+}
+
+/// In the place of an expression: a field, or a cast.
+#[tactic(auto, unfolding(crate::specs::SyntaxNotes::expression_note))]
+fn expression_note(token: &[u8]) -> &'static str
+    ensures { result.now ≡ spec.expression_note token.now }
+{
+    if token == b">".as_slice() {
+        return field_note();
+    }
+    if is_read_type(token) {
+        return "note: no cast is read: leave it out\n";
+    }
+    ""
+}
+
+/// Behind an item.
+#[tactic(auto, unfolding(crate::specs::SyntaxNotes::item_end_note))]
+fn item_end_note(token: &[u8]) -> &'static str
+    ensures { result.now ≡ spec.item_end_note token.now }
+{
+    if token == b",".as_slice() {
+        return "note: each variable is an item of its own, as `int x; int y;`\n";
+    }
+    if token == b":".as_slice() {
+        return "note: bits of a word have no names: each is a variable of its own, or a number, as in `READ_ONCE(*x) & 2`\n";
+    }
+    ""
+}
+
+/// In the place of an item.
+#[tactic(auto, unfolding(crate::specs::SyntaxNotes::item_note))]
+fn item_note(token: &[u8]) -> &'static str
+    ensures { result.now ≡ spec.item_note token.now }
+{
+    if token == b")".as_slice() || token == b",".as_slice() || token == b"]".as_slice() {
+        return "";
+    }
+    block_note()
+}
+
+/// In the place of an initial value.
+#[tactic(auto, unfolding(crate::specs::SyntaxNotes::initial_note))]
+fn initial_note(token: &[u8]) -> &'static str
+    ensures { result.now ≡ spec.initial_note token.now }
+{
+    if token == b"*".as_slice() {
+        return block_note();
+    }
+    ""
+}
+
+/// In the place of a statement.
+#[tactic(auto, unfolding(crate::specs::SyntaxNotes::statement_place_note))]
+fn statement_place_note(token: &[u8]) -> &'static str
+    ensures { result.now ≡ spec.statement_place_note token.now }
+{
+    if token == b"{".as_slice() {
+        return "note: a block stands behind `if (..)`, `else` or `for (..)` alone\n";
+    }
+    ""
+}
+
+/// What to write where this is expected.
+#[tactic(auto, unfolding(crate::specs::SyntaxNotes::place_note))]
+fn place_note(expected: Expected, token: &[u8], before: &[u8], rest: &[u8]) -> &'static str
+    ensures { result.now ≡ spec.place_note expected token.now before.now rest.now }
+{
+    match expected {
+        Expected::Number => value_note(),
+        Expected::Type => parameter_note(token),
+        Expected::Expression => expression_note(token),
+        Expected::ItemEnd => item_end_note(token),
+        Expected::Variable => item_note(token),
+        Expected::Value => initial_note(token),
+        Expected::Statement => statement_place_note(token),
+        Expected::Process | Expected::Condition => process_note(token),
+        Expected::Proposition => proposition_note(token),
+        Expected::End | Expected::Operator => joined_note(token, rest),
+        Expected::IntegerVariable
+        | Expected::AtomicVariable
+        | Expected::LockVariable
+        | Expected::MemoryVariable => starred_note(token),
+        Expected::Sign(sign) => sign_note(sign, token, before, rest),
+        _ => "",
+    }
+}
+
+/// A value that C has a word for.
+#[tactic(auto, unfolding(crate::specs::SyntaxNotes::is_truth))]
+fn is_truth(token: &[u8]) -> bool
+    ensures { result ≡ spec.is_truth token.now }
+{
+    token == b"true".as_slice() || token == b"false".as_slice()
+}
+
+/// What to write in the place of a token behind this word, which is taken for a register or a variable, or behind this
+/// number; the text goes on with these bytes from the token on.
+#[tactic(auto, unfolding(crate::specs::SyntaxNotes::token_note))]
+fn token_note(expected: Expected, token: &[u8], before: &[u8], rest: &[u8]) -> &'static str
+    ensures { result.now ≡ spec.token_note expected token.now before.now rest.now }
+{
+    if is_jump(before) {
+        return jump_note();
+    }
+    if is_type(before) {
+        return type_note(before);
+    }
+    if is_number(before) {
+        return behind_number(token, rest);
+    }
+    if before == b"const".as_slice() {
+        return const_note();
+    }
+    if token == b"++".as_slice() {
+        return increase_note();
+    }
+    if is_truth(token) {
+        return "note: write 1 for `true`, and 0 for `false`\n";
+    }
+    if token == b"[".as_slice() {
+        return element_note();
+    }
+    place_note(expected, token, before, rest)
+}
+
+/// In the place of a variable that the process, or of one that the text, doesn't have.
+#[tactic(auto, unfolding(crate::specs::SyntaxNotes::unknown_note))]
+fn unknown_note(expected: Expected, token: &[u8]) -> &'static str
+    ensures { result.now ≡ spec.unknown_note expected token.now }
+{
+    match expected {
+        Expected::Variable if token == b"not".as_slice() => tilde_note(),
+        Expected::Variable =>
+            "note: a register stands behind its process, as `0:r0`; a variable is an item, as `{ int x; }`, or a parameter\n",
+        _ =>
+            "note: a process has its variables as parameters, as `P0(int *x)`; a pointer in a register is a number: `if (r0) r1 = *b;`\n",
+    }
+}
+
+/// In the place of a sign that begins no token.
+#[tactic(auto, unfolding(crate::specs::SyntaxNotes::stray_note))]
+fn stray_note(token: &[u8]) -> &'static str
+    ensures { result.now ≡ spec.stray_note token.now }
+{
+    if token == b"#".as_slice() {
+        return "note: no macro is read: write in its place what it stands for\n";
+    }
+    if token == b".".as_slice() {
+        return field_note();
+    }
+    ""
+}
+
+/// What stands behind a token, where the text goes on with these bytes from it on.
+#[tactic(auto, unfolding(crate::specs::SyntaxNotes::behind_token))]
+pub(crate) fn behind_token<'a>(token: &[u8], rest: &'a [u8]) -> &'a [u8]
+    ensures { result.now ≡ spec.behind_token token.now rest.now }
+{
+    if token.len() <= rest.len() {
+        &rest[token.len()..]
+    } else {
+        &[]
+    }
+}
+
+/// In the place of a variable of the process, which these bytes follow.
+#[tactic(auto, unfolding(crate::specs::SyntaxNotes::variable_note))]
+fn variable_note(behind: &[u8]) -> &'static str
+    ensures { result.now ≡ spec.variable_note behind.now }
+{
+    if behind.starts_with(b"++") {
+        return increase_note();
+    }
+    if behind.starts_with(b",") {
+        return "note: a value is a number or a register, as `r0 = *x;` gives; `atomic_add(1, f)` has the variable last\n";
+    }
+    "note: its memory is read and written as `*x`, or by a call, as `WRITE_ONCE(*x, 1)`\n"
+}
+
+/// In the place of a comment that goes on to the end.
+#[tactic(auto, unfolding(crate::specs::SyntaxNotes::comment_note))]
+fn comment_note(expected: Expected) -> &'static str
+    ensures { result.now ≡ spec.comment_note expected }
+{
+    match expected {
+        Expected::Proposition => bare_note(),
+        _ => "",
+    }
+}
+
+/// What to write where a text has this fault.
+#[tactic(auto, unfolding(crate::specs::SyntaxNotes::fault_note))]
+pub(crate) fn fault_note(
+    fault: Fault,
+    expected: Expected,
+    token: &[u8],
+    before: &[u8],
+    rest: &[u8],
+) -> &'static str
+    ensures { result.now ≡ spec.fault_note fault expected token.now before.now rest.now }
+{
+    match fault {
+        Fault::Token => token_note(expected, token, before, rest),
+        Fault::Variable => variable_note(behind_token(token, rest)),
+        Fault::Unknown => unknown_note(expected, token),
+        Fault::Stray => stray_note(token),
+        Fault::Unclosed => comment_note(expected),
+        _ => "",
+    }
+}
+
+/// A field or an element of what stands before it begins so.
+#[tactic(auto, unfolding(crate::specs::SyntaxNotes::is_part))]
+pub(crate) fn is_part(behind: &[u8]) -> bool
+    ensures { result ≡ spec.is_part behind.now }
+{
+    behind.starts_with(b"->") || behind.starts_with(b".") || behind.starts_with(b"[")
+}
+
+/// What to write in the place of a field or an element that begins so.
+#[tactic(auto, unfolding(crate::specs::SyntaxNotes::part_note))]
+pub(crate) fn part_note(behind: &[u8]) -> &'static str
+    ensures { result.now ≡ spec.part_note behind.now }
+{
+    if behind.starts_with(b"->counter") || behind.starts_with(b".counter") {
+        return "note: it is the value of the `atomic_t *f` itself: write `atomic_read(f)`, `atomic_set(f, 1)` or `atomic_add(1, f)`\n";
+    }
+    if behind.starts_with(b"[") {
+        return element_note();
+    }
+    field_note()
+}
