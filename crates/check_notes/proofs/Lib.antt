@@ -1,2 +1,0 @@
-mod HeadLemmas
-mod StatementLemmas

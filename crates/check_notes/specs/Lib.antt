@@ -1,10 +1,5 @@
 pub mod CallNotes
 pub mod CommonNotes
-pub mod HeadScan
-pub mod HeadText
 pub mod Notes
-pub mod Registers
-pub mod SameNames
 pub mod SyntaxNotes
-pub mod Warnings
 pub mod Words

@@ -1,6 +1,7 @@
 -- What to write in the place of a token that isn't of this format.
 use Rattle.std.specs.Prelude.{◌||◌, ℕ, Bool, List, [], ◌∷◌, bytes_eq, codes, drop, if◌then◌else◌, length}
-use Rattle.check_notes.specs.CommonNotes.{bare_note, block_note, compared_note, const_note, element_note, field_note, implied_note, increase_note, join_note, jump_note, name_note, number_note, sequence_note, star_note, tilde_note, value_note}
+use Rattle.check_notes.specs.CommonNotes.{bare_note, block_note, compared_note, const_note, element_note, field_note, implied_note, increase_note, join_note, jump_note, name_note, number_note, sequence_note}
+use Rattle.check_notes.specs.CommonNotes.{star_note, tilde_note, value_note}
 use Rattle.check_notes.specs.Words.{begins, has_eight_bytes, has_four_bytes, has_one_byte, has_two_bytes, is_atomic_type, is_jump, is_lock_type, is_number, is_operator, is_sequence_type, is_suffix, is_type}
 use Rattle.litmus_lex.specs.declared.reason.Expected.{Expected}
 use Rattle.litmus_lex.specs.declared.reason.Expected.TheVariants as places
@@ -175,7 +176,7 @@ unfoldable pub item_end_note : List ℕ → List ℕ
 item_end_note token =
     if bytes_eq token (codes ",") then codes "note: each variable is an item of its own, as `int x; int y;`\n"
     else if bytes_eq token (codes ":")
-    then codes "note: bits of a word have no names: each is a variable of its own, or a number, as in `READ_ONCE(*x) & 2`\n"
+    then codes "note: bits of a word have no names: to set bit 1 of an `int *x`, as C does it, is `r0 = *x; *x = r0 | 2;`, and `*x & 2` reads it\n"
     else []
 
 -- in the place of an item

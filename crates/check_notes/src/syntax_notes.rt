@@ -346,7 +346,7 @@ fn item_end_note(token: &[u8]) -> &'static str
         return "note: each variable is an item of its own, as `int x; int y;`\n";
     }
     if token == b":".as_slice() {
-        return "note: bits of a word have no names: each is a variable of its own, or a number, as in `READ_ONCE(*x) & 2`\n";
+        return "note: bits of a word have no names: to set bit 1 of an `int *x`, as C does it, is `r0 = *x; *x = r0 | 2;`, and `*x & 2` reads it\n";
     }
     ""
 }

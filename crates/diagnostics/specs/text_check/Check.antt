@@ -23,7 +23,7 @@ use Rattle.prepared_program.specs.declared.program_sites.settings.Settings.{Sett
 use Rattle.program_table.specs.Table.{program_table}
 use Rattle.program_table.specs.Words.{AreWords}
 use Rattle.diagnostics.specs.refusal_text.Message.{IsRefusalText}
-use Rattle.check_notes.specs.Warnings.{AreWarningsOf}
+use Rattle.check_warnings.specs.Warnings.{AreWarningsOf}
 use Rattle.diagnostics.specs.declared.text_check.checked.Check.{Check}
 use Rattle.diagnostics.specs.declared.text_check.checked.Check.TheVariants.{Misplaced, Reads, Refused}
 

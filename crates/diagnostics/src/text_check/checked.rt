@@ -12,7 +12,7 @@ ghost use Rattle.diagnostics.specs.text_check.Check.{IsCheckOf, IsToldOf, IsRefu
 
 use crate::option_diagnostics::misfit;
 use crate::refusal_text::refusal_text;
-use check_notes::text_warnings;
+use check_warnings::text_warnings;
 use litmus_parse::{Limit, ParseError, Program, Reading, Reason, Refused, print, read_text};
 use prepared_program::program_sites::{Prepared, RunError, Settings};
 use program_table::program_table;

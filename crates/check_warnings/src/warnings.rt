@@ -4,8 +4,8 @@
 ghost use Rattle.std.specs.Prelude.{◌≡◌, ◌≤◌, IfOk, IfSome, length, map};
 ghost use Rattle.std.specs.Option.{option_map};
 ghost use Rattle.litmus_syntax.specs.Views.{block_of, program_of, proposition_of, task_of};
-ghost use Rattle.check_notes.specs.Warnings as spec;
-ghost use Rattle.check_notes.specs.Warnings.{AreWarningsOf};
+ghost use Rattle.check_warnings.specs.Warnings as spec;
+ghost use Rattle.check_warnings.specs.Warnings.{AreWarningsOf};
 
 use crate::head_text::passed_text;
 use crate::registers::{Role, role_of};

@@ -4,8 +4,8 @@ ghost use Rattle.std.specs.Prelude.{◌≡◌, ◌+◌, ◌<◌, ◌≤◌, ℕ,
 ghost use Rattle.litmus_lex.specs.Bytes.{belongs};
 ghost use Rattle.litmus_lex.specs.Head.{IsHead};
 ghost use Rattle.litmus_lex.specs.declared.bytes.Class.TheVariants as classes;
-ghost use Rattle.check_notes.specs.HeadScan as spec;
-ghost use Rattle.check_notes.specs.HeadText.{text_in};
+ghost use Rattle.check_warnings.specs.HeadScan as spec;
+ghost use Rattle.check_warnings.specs.HeadText.{text_in};
 
 /// Where a byte of a head stands.
 #[derive(Clone, Copy)]

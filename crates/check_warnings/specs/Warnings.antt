@@ -8,11 +8,11 @@ use Rattle.litmus_lex.specs.Lines.{column_at, line_at}
 use Rattle.litmus_syntax.specs.Tree.{Block, Program, Proposition, Task}
 use Rattle.litmus_syntax.specs.declared.program.Variable.{Variable}
 use Rattle.program_table.specs.text_pieces.Shown.{shown}
-use Rattle.check_notes.specs.HeadText.{text_in}
-use Rattle.check_notes.specs.Registers.{role_of}
-use Rattle.check_notes.specs.SameNames.{named, same_name_words}
-use Rattle.check_notes.specs.declared.registers.Role.{Role}
-use Rattle.check_notes.specs.declared.registers.Role.TheVariants as roles
+use Rattle.check_warnings.specs.HeadText.{text_in}
+use Rattle.check_warnings.specs.Registers.{role_of}
+use Rattle.check_warnings.specs.SameNames.{named, same_name_words}
+use Rattle.check_warnings.specs.declared.registers.Role.{Role}
+use Rattle.check_warnings.specs.declared.registers.Role.TheVariants as roles
 
 -- a line on a register of a task, in a file of this name
 unfoldable pub register_line : (file : List ℕ) → (task : ℕ) → (register words : List ℕ) → List ℕ

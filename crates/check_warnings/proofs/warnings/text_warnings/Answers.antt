@@ -1,7 +1,7 @@
 -- The line on the head is that on what is found in it.
 use Rattle.std.proofs.Common.{◌++◌, ◌∙◌, List, Option, ap, ap₂, ℕ}
-use Rattle.check_notes.specs.Warnings.{head_line}
-use Rattle.check_notes.proofs.warnings.text_warnings.Goals as goal
+use Rattle.check_warnings.specs.Warnings.{head_line}
+use Rattle.check_warnings.proofs.warnings.text_warnings.Goals as goal
 
 pub returns : goal.returns
 returns c = λ name at head.

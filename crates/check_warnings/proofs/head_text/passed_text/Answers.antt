@@ -1,6 +1,6 @@
 -- The `C` is the first byte of text, and behind the test's name comes what is passed over.
-use Rattle.check_notes.proofs.HeadLemmas.{found_behind, nothing_found}
-use Rattle.check_notes.proofs.head_text.passed_text.Goals as goal
+use Rattle.check_warnings.proofs.HeadLemmas.{found_behind, nothing_found}
+use Rattle.check_warnings.proofs.head_text.passed_text.Goals as goal
 
 pub returns-in_err-letter-clause-exact : goal.returns-in_err-letter-clause-exact
 returns-in_err-letter-clause-exact c = λ name at head.

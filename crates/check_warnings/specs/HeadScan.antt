@@ -2,10 +2,10 @@
 use Rattle.std.specs.Prelude.{◌==◌, ◌&&◌, ◌+◌, ℕ, suc, List, [], ◌∷◌, Option, None, Some, drop, if◌then◌else◌, option_and_then, slice_index}
 use Rattle.litmus_lex.specs.Bytes.{belongs}
 use Rattle.litmus_lex.specs.declared.bytes.Class.TheVariants as classes
-use Rattle.check_notes.specs.declared.head_text.Step.{Step}
-use Rattle.check_notes.specs.declared.head_text.Step.TheVariants.{End, Text, To}
-use Rattle.check_notes.specs.declared.head_text.Within.{Within}
-use Rattle.check_notes.specs.declared.head_text.Within.TheVariants.{Blanks, Closing, Comment, Name, Opening, Pieces, Quotes}
+use Rattle.check_warnings.specs.declared.head_text.Step.{Step}
+use Rattle.check_warnings.specs.declared.head_text.Step.TheVariants.{End, Text, To}
+use Rattle.check_warnings.specs.declared.head_text.Within.{Within}
+use Rattle.check_warnings.specs.declared.head_text.Within.TheVariants.{Blanks, Closing, Comment, Name, Opening, Pieces, Quotes}
 
 -- the step at a byte that begins a piece, before this byte; 34 is '"', 40 '(', 41 ')', 42 '*' and 123 '{'
 abbrev pub piece_step : (byte next : ℕ) → Step

@@ -1,8 +1,8 @@
 -- The lines so far, and those of the registers to come, are all.
 use Rattle.std.proofs.Common.{◌≡◌, ◌++◌, drop}
 use Rattle.litmus_syntax.specs.Views.{block_of, proposition_of}
-use Rattle.check_notes.specs.Warnings.{registers_from}
-use Rattle.check_notes.proofs.warnings.registers_lines.Given as goal
+use Rattle.check_warnings.specs.Warnings.{registers_from}
+use Rattle.check_warnings.proofs.warnings.registers_lines.Given as goal
 
 abbrev pub invariant-loop-number : goal.invariant-loop-number
 invariant-loop-number l =

@@ -1,8 +1,8 @@
 -- Each turn goes over one byte.
 use Rattle.std.proofs.Common.{◌∙◌, arith, refl, slice_index, sym}
-use Rattle.check_notes.proofs.HeadLemmas.{at_step}
-use Rattle.check_notes.specs.declared.head_text.Step.TheVariants.{Text, To}
-use Rattle.check_notes.proofs.head_text.text_at.Goals as goal
+use Rattle.check_warnings.proofs.HeadLemmas.{at_step}
+use Rattle.check_warnings.specs.declared.head_text.Step.TheVariants.{Text, To}
+use Rattle.check_warnings.proofs.head_text.text_at.Goals as goal
 
 pub loop-at-preserved : goal.loop-at-preserved
 loop-at-preserved c =

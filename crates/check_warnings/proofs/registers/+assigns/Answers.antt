@@ -2,9 +2,9 @@
 use Rattle.std.proofs.Common.{◌∙◌, ne_eqb, refl, sym}
 use Rattle.std.specs.Prelude.{◌==◌}
 use Rattle.litmus_syntax.specs.Views.{block_of}
-use Rattle.check_notes.proofs.StatementLemmas.{of_for, of_if, of_if_else, of_passed, or_else, or_then}
-use Rattle.check_notes.specs.Registers.{assigns, assigns_in}
-use Rattle.check_notes.proofs.registers.+assigns.Goals as goal
+use Rattle.check_warnings.proofs.StatementLemmas.{of_for, of_if, of_if_else, of_passed, or_else, or_then}
+use Rattle.check_warnings.specs.Registers.{assigns, assigns_in}
+use Rattle.check_warnings.proofs.registers.+assigns.Goals as goal
 
 pub assigns-returns-in-If : goal.assigns-returns-in-If
 assigns-returns-in-If t c =

@@ -2,8 +2,8 @@
 use Rattle.std.specs.Prelude.{◌==◌, ◌&&◌, ◌||◌, ℕ, Bool, false, if◌then◌else◌}
 use Rattle.litmus_syntax.specs.Tree.{Assignment, Block, Expression, Fetch, Loading, Proposition, Pure, Statement}
 use Rattle.litmus_syntax.specs.Tree as tree
-use Rattle.check_notes.specs.declared.registers.Role.{Role}
-use Rattle.check_notes.specs.declared.registers.Role.TheVariants as roles
+use Rattle.check_warnings.specs.declared.registers.Role.{Role}
+use Rattle.check_warnings.specs.declared.registers.Role.TheVariants as roles
 
 -- the register stands in an expression without a load
 abbrev pub in_pure : ℕ → Pure → Bool

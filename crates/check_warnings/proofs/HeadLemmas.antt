@@ -15,12 +15,12 @@ use Rattle.litmus_lex.specs.Head.{IsAtBrace, IsHead, IsOther, IsPassed, IsQuoted
 use Rattle.litmus_lex.specs.declared.bytes.Class.TheVariants as classes
 use Rattle.litmus_lex.specs.declared.gap.Comment.TheVariants as comments
 use Rattle.litmus_lex.specs.declared.token.Part.TheVariants.{Head}
-use Rattle.check_notes.specs.HeadScan.{after_step, passed_text, piece_step, step_of, text_at, text_behind}
-use Rattle.check_notes.specs.HeadText.{first_text, text_from, text_in}
-use Rattle.check_notes.specs.declared.head_text.Step.{Step}
-use Rattle.check_notes.specs.declared.head_text.Step.TheVariants.{End, Text, To}
-use Rattle.check_notes.specs.declared.head_text.Within.{Within}
-use Rattle.check_notes.specs.declared.head_text.Within.TheVariants as within
+use Rattle.check_warnings.specs.HeadScan.{after_step, passed_text, piece_step, step_of, text_at, text_behind}
+use Rattle.check_warnings.specs.HeadText.{first_text, text_from, text_in}
+use Rattle.check_warnings.specs.declared.head_text.Step.{Step}
+use Rattle.check_warnings.specs.declared.head_text.Step.TheVariants.{End, Text, To}
+use Rattle.check_warnings.specs.declared.head_text.Within.{Within}
+use Rattle.check_warnings.specs.declared.head_text.Within.TheVariants as within
 
 -- one byte is gone over
 one_step : (w : Within) (at byte : ℕ) (rest : List ℕ) (step : Step) → step_of w byte (slice_index rest 0) ≡ step

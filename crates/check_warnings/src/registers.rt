@@ -2,7 +2,7 @@
 
 ghost use Rattle.std.specs.Prelude.{◌≡◌};
 ghost use Rattle.litmus_syntax.specs.Views.{assignment_of, block_of, expression_of, fetch_of, loading_of, proposition_of, pure_of, statement_of};
-ghost use Rattle.check_notes.specs.Registers as spec;
+ghost use Rattle.check_warnings.specs.Registers as spec;
 
 use litmus_syntax::{Assignment, Expression, Fetch, Loading, Proposition, Pure, Statement};
 

@@ -3,7 +3,7 @@
 
 ghost use Rattle.std.specs.Prelude.{◌≡◌, IfOk};
 ghost use Rattle.std.specs.Option.{option_map};
-ghost use Rattle.check_notes.specs.SameNames as spec;
+ghost use Rattle.check_warnings.specs.SameNames as spec;
 
 use litmus_syntax::{Contents, Name, Variable};
 use program_table::text_pieces::{joined, number, shown};

@@ -1,8 +1,8 @@
 -- The lines so far, and those of the tasks to come, are all.
 use Rattle.std.proofs.Common.{◌≡◌, ◌++◌, drop, map}
 use Rattle.litmus_syntax.specs.Views.{proposition_of, task_of}
-use Rattle.check_notes.specs.Warnings.{tasks_from}
-use Rattle.check_notes.proofs.warnings.tasks_lines.Given as goal
+use Rattle.check_warnings.specs.Warnings.{tasks_from}
+use Rattle.check_warnings.proofs.warnings.tasks_lines.Given as goal
 
 abbrev pub invariant-loop-number : goal.invariant-loop-number
 invariant-loop-number l =

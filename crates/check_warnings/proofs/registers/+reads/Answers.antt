@@ -2,10 +2,10 @@
 use Rattle.std.proofs.Common.{◌≡◌, ◌∙◌, sym}
 use Rattle.std.specs.Prelude.{◌||◌}
 use Rattle.litmus_syntax.specs.Views.{block_of, expression_of}
-use Rattle.check_notes.proofs.StatementLemmas.{of_for, of_if, of_if_else, of_passed, or_else, or_then}
-use Rattle.check_notes.specs.Registers.{in_expression, reads, reads_in}
-use Rattle.check_notes.proofs.registers.+reads.Goals as goal
-use Rattle.check_notes.proofs.registers.+reads.Goals.{reads-else-in_expression-2, reads-then-in_expression-2}
+use Rattle.check_warnings.proofs.StatementLemmas.{of_for, of_if, of_if_else, of_passed, or_else, or_then}
+use Rattle.check_warnings.specs.Registers.{in_expression, reads, reads_in}
+use Rattle.check_warnings.proofs.registers.+reads.Goals as goal
+use Rattle.check_warnings.proofs.registers.+reads.Goals.{reads-else-in_expression-2, reads-then-in_expression-2}
 
 pub reads-returns-else-in_expression : goal.reads-returns-else-in_expression
 reads-returns-else-in_expression t c =

@@ -1,0 +1,2 @@
+mod HeadLemmas
+mod StatementLemmas

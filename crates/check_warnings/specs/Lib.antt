@@ -1,0 +1,5 @@
+pub mod HeadScan
+pub mod HeadText
+pub mod Registers
+pub mod SameNames
+pub mod Warnings
