@@ -157,7 +157,7 @@ unfoldable pub made_of_others : List ℕ → List ℕ
 made_of_others name =
     if is_of_sequence name then sequence_why name
     else if begins name (codes "smp_cond_load_")
-    then codes "note: a wait has a number of tries: `for (i = 0; i < 3; i++) if (!r0) r0 = smp_load_acquire(x);`, and `if (r0) { .. }` round what follows\n"
+    then codes "note: a wait has a number of tries: `ok = 0; for (i = 0; i < 3; i++) if (!ok) { r0 = smp_load_acquire(x); ok = r0 == 1; }` waits for 1, and `if (ok) { .. }` stands round what follows\n"
     else if begins name (codes "wait_") then wait_note
     else if asserts name then codes "note: what may come is asked by the condition, as `exists (1:r0=1)`\n"
     else if is_transparent name then codes "note: write what its parentheses have\n"
@@ -169,28 +169,44 @@ unfoldable pub exchanges : List ℕ → Bool
 exchanges name = begins name (codes "atomic_xchg") || begins name (codes "atomic_cmpxchg")
     || begins name (codes "atomic_try_cmpxchg")
 
--- a call that changes an atomic variable and gives its value
-unfoldable pub gives_value : List ℕ → Bool
-gives_value name = begins name (codes "atomic_fetch_") || begins name (codes "atomic_inc_")
-    || begins name (codes "atomic_dec_") || begins name (codes "atomic_add_") || begins name (codes "atomic_sub_")
-    || begins name (codes "refcount_inc_")
-
--- a call that counts references and gives whether one is left
-unfoldable pub counts_down : List ℕ → Bool
-counts_down name = begins name (codes "refcount_dec_") || begins name (codes "refcount_sub_")
+-- a call that adds to an atomic variable and gives its value, or whether it was added to
+unfoldable pub gives_sum : List ℕ → Bool
+gives_sum name = begins name (codes "atomic_fetch_add") || begins name (codes "atomic_fetch_inc")
+    || begins name (codes "atomic_inc_") || begins name (codes "atomic_add_") || begins name (codes "refcount_inc_")
     || begins name (codes "refcount_add_")
+
+-- a call that takes from an atomic variable and gives its value, or whether it is 0
+unfoldable pub gives_difference : List ℕ → Bool
+gives_difference name = begins name (codes "atomic_fetch_sub") || begins name (codes "atomic_fetch_dec")
+    || begins name (codes "atomic_dec_") || begins name (codes "atomic_sub_") || begins name (codes "refcount_dec_")
+    || begins name (codes "refcount_sub_")
+
+-- the line on a call that changes bits of an atomic variable
+unfoldable pub bits_why : List ℕ → List ℕ
+bits_why name =
+    if begins name (codes "atomic_or") || begins name (codes "atomic_fetch_or")
+    then codes "note: of an `int` in each task: `ok = 0; for (i = 0; i < 3; i++) if (!ok) { r0 = READ_ONCE(*f); r1 = cmpxchg(f, r0, r0 | 1); ok = r1 == r0; }`\n"
+    else if begins name (codes "atomic_andnot") || begins name (codes "atomic_fetch_andnot")
+    then codes "note: of an `int` in each task: `ok = 0; for (i = 0; i < 3; i++) if (!ok) { r0 = READ_ONCE(*f); r1 = cmpxchg(f, r0, r0 & ~1); ok = r1 == r0; }`\n"
+    else if begins name (codes "atomic_and") || begins name (codes "atomic_fetch_and")
+    then codes "note: of an `int` in each task: `ok = 0; for (i = 0; i < 3; i++) if (!ok) { r0 = READ_ONCE(*f); r1 = cmpxchg(f, r0, r0 & 1); ok = r1 == r0; }`\n"
+    else if begins name (codes "atomic_xor") || begins name (codes "atomic_fetch_xor")
+    then codes "note: of an `int` in each task: `ok = 0; for (i = 0; i < 3; i++) if (!ok) { r0 = READ_ONCE(*f); r1 = cmpxchg(f, r0, r0 ^ 1); ok = r1 == r0; }`\n"
+    else atomic_note
 
 -- the line on a call of an atomic variable
 unfoldable pub atomic_why : List ℕ → List ℕ
 atomic_why name =
     if exchanges name
     then codes "note: of an `int` in each task write `xchg(f, 1)` or `cmpxchg(f, 0, 1)`, and READ_ONCE and WRITE_ONCE for atomic_read and atomic_set\n"
-    else if gives_value name || counts_down name
+    else if gives_sum name
     then codes "note: of an `int` in each task: `ok = 0; for (i = 0; i < 3; i++) if (!ok) { r0 = READ_ONCE(*f); r1 = cmpxchg(f, r0, r0 + 1); ok = r1 == r0; }`\n"
+    else if gives_difference name
+    then codes "note: of an `int` in each task: `ok = 0; for (i = 0; i < 3; i++) if (!ok) { r0 = READ_ONCE(*f); r1 = cmpxchg(f, r0, r0 - 1); ok = r1 == r0; }`\n"
     else if bytes_eq name (codes "atomic_sub") then codes "note: write `atomic_add(-1, f)`\n"
     else if begins name (codes "refcount_")
     then codes "note: of an `atomic_t` write `atomic_inc(f)`, `atomic_dec(f)`, `atomic_read(f)` or `atomic_set(f, 1)`\n"
-    else atomic_note
+    else bits_why name
 
 -- a call of an atomic variable
 unfoldable pub is_of_atomic : List ℕ → Bool

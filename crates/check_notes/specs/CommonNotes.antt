@@ -20,11 +20,21 @@ star_note = codes "note: `*` stands before the variable, as in `int *x` and `REA
 -- a wait ends
 unfoldable pub wait_note : List ℕ
 wait_note =
-    codes "note: a wait has a number of tries: `for (i = 0; i < 3; i++) if (!r0) r0 = READ_ONCE(*x);`, and `if (r0) { .. }` round what follows\n"
+    codes "note: a wait has a number of tries: `ok = 0; for (i = 0; i < 3; i++) if (!ok) { r0 = READ_ONCE(*x); ok = r0 == 1; }` waits for 1, with `ok = (r0 & 1) == 0;` for bit 0 to be 0; `if (ok) { .. }` stands round what follows\n"
+
+-- a loop ends
+unfoldable pub turns_note : List ℕ
+turns_note =
+    codes "note: a loop has a number of turns: `ok = 0; for (i = 0; i < 3; i++) if (!ok) { r0 = *x; ok = r0 == 1; }` ends once `r0` is 1, and `if (ok) { .. }` stands round what follows\n"
 
 -- that `~` is what says that something isn't so
 unfoldable pub tilde_note : List ℕ
 tilde_note = codes "note: in the condition `~` stands before what isn't so, as `~0:r0=1`\n"
+
+-- a structure has no place before the processes
+unfoldable pub structure_note : List ℕ
+structure_note =
+    codes "note: the first `{` begins the initialization block, with no `;` behind it: leave the structure out, and write a variable for each field, as `P0(int *msg_f, int *msg_g)`\n"
 
 -- a field has no name of its own here
 unfoldable pub field_note : List ℕ
@@ -66,7 +76,7 @@ const_note = codes "note: leave out `const`\n"
 
 -- how one is added
 unfoldable pub increase_note : List ℕ
-increase_note = codes "note: write `(*x)++`, or `r0 = r0 + 1`\n"
+increase_note = codes "note: write `(*x)++;` or `r0 = r0 + 1;` as a statement of its own, and for `r0 = (*x)++;` write `r0 = *x; *x = r0 + 1;`\n"
 
 -- a variable of the condition has no `*`
 unfoldable pub bare_note : List ℕ

@@ -1,7 +1,7 @@
 -- The last line of a message: what to write in the place of what C or the kernel's format have, or why it isn't read.
 use Rattle.std.specs.Prelude.{◌&&◌, ◌||◌, ℕ, Bool, List, [], ◌∷◌, bytes_eq, codes, false, if◌then◌else◌, true}
 use Rattle.check_notes.specs.CallNotes.{call_why}
-use Rattle.check_notes.specs.CommonNotes.{block_note, field_note, jump_note, name_note, pointer_note, star_note, value_note, wait_note}
+use Rattle.check_notes.specs.CommonNotes.{block_note, field_note, name_note, pointer_note, star_note, turns_note, value_note, wait_note}
 use Rattle.check_notes.specs.SyntaxNotes.{behind_token, fault_note, is_part, part_note}
 use Rattle.check_notes.specs.Words.{begins}
 use Rattle.litmus_lex.specs.declared.reason.Expected.{Expected}
@@ -16,12 +16,24 @@ unfoldable pub section_why : List ℕ → List ℕ
 section_why name =
     if begins name (codes "locations") then codes "note: it changes nothing here: leave it out\n" else codes "note: no run is left out here: leave it out\n"
 
--- a loop that waits
+-- a loop that waits, or that has a turn before it asks whether it ends
 unfoldable pub loop_why : List ℕ → List ℕ
 loop_why word =
-    if bytes_eq word (codes "while") || bytes_eq word (codes "do")
-    then wait_note
+    if bytes_eq word (codes "while") then wait_note
+    else if bytes_eq word (codes "do") then turns_note
     else []
+
+-- the line on the head of a loop that leaves the form that is read where this is expected
+unfoldable pub head_why : Expected → List ℕ
+head_why places.Register = codes "note: a register stands there without a type, as in `for (i = 0; i < 3; i++)`, and need not be declared\n"
+head_why places.Number = codes "note: the number of turns is a number: write the greatest, as in `for (i = 0; i < 3; i++) if (i < r0) { .. }`\n"
+head_why expected = codes "note: a loop counts up from 0 by 1, below a number: for 1 to 2 write `for (i = 0; i < 2; i++) { j = i + 1; .. }`\n"
+
+-- the line on the head of a loop that leaves that form at this token
+unfoldable pub form_why : Expected → List ℕ → List ℕ
+form_why expected token =
+    if bytes_eq token (codes ";") then turns_note
+    else head_why expected
 
 -- a structure of C: a mutex, or one with fields
 unfoldable pub structure_why : List ℕ → List ℕ
@@ -38,6 +50,15 @@ word_why word rest =
     else if bytes_eq word (codes "volatile") then codes "note: an access is marked itself, as `READ_ONCE(*x)`\n"
     else []
 
+-- the line on a division of C
+unfoldable pub division_why : List ℕ → List ℕ
+division_why sign =
+    if bytes_eq sign (codes "/")
+    then codes "note: of a register from 0 to 5, as `r0 = *x;` loads, `r0 / 2` is `(r0 >= 2) + (r0 >= 4)`; of two numbers write the result\n"
+    else if bytes_eq sign (codes "%")
+    then codes "note: of a register, as `r0 = *x;` loads, `r0 % 4` is `r0 & 3` where it isn't negative, and `r0 % 3` is `r0 - 3 * (r0 >= 3)` from 0 to 5\n"
+    else []
+
 -- an operator of C
 unfoldable pub operator_why : List ℕ → List ℕ
 operator_why sign =
@@ -46,7 +67,7 @@ operator_why sign =
     else if bytes_eq sign (codes "?") then codes "note: write `if (r0) r1 = 1; else r1 = 2;`\n"
     else if bytes_eq sign (codes "<<") then codes "note: write `r0 * 4` for `r0 << 2`, and the number itself for `1 << 2`\n"
     else if bytes_eq sign (codes ">>") then codes "note: a bit is tested by `r0 & 4`\n"
-    else []
+    else division_why sign
 
 -- an address where this is expected
 unfoldable pub address_why : Expected → List ℕ
@@ -65,6 +86,7 @@ type_why places.AtomicVariable =
     codes "note: an atomic variable is an `atomic_t *f`; an `int` has READ_ONCE(*f), WRITE_ONCE(*f, 1), xchg(f, 1) and cmpxchg(f, 0, 1)\n"
 type_why places.LockVariable =
     codes "note: a lock is a `spinlock_t *l`; one that is tried is an `int`, taken in each task by `r0 = cmpxchg(l, 0, 1);` where `r0` is 0\n"
+type_why places.MemoryVariable = codes "note: a lock has no bytes: write a variable of another type\n"
 type_why expected = []
 
 -- a pointer that is made behind this word, or where an item begins
@@ -93,8 +115,11 @@ why unreads.Pointer expected token before rest = pointer_why before
 why unreads.Label expected token before rest = codes "note: a process gives it a value, as `r0 = 1;`\n"
 why unreads.Name expected token before rest = name_why (behind_token token rest)
 why unreads.LockValue expected token before rest = codes "note: an item `spinlock_t l` has no value, and the condition no lock\n"
-why unreads.Counter expected token before rest = jump_note
-why unread expected token before rest = []
+why unreads.Counter expected token before rest =
+    codes "note: the loop alone changes the register that it counts with: assign another one, and to end sooner write `ok = 1;` and `if (!ok) { .. }` in the loop\n"
+why unreads.LoopForm expected token before rest = form_why expected token
+why unreads.TwoTypes expected token before rest =
+    codes "note: a variable has one type: write the same one in each process and in its item, as `int *x` and `{ int x; }`\n"
 
 -- what is said of a token that isn't read, where the text goes on with these bytes from it on
 unfoldable pub reason_note : Reason → (token before rest : List ℕ) → List ℕ

@@ -1,7 +1,7 @@
 -- What to write in the place of a token that isn't of this format.
 use Rattle.std.specs.Prelude.{◌||◌, ℕ, Bool, List, [], ◌∷◌, bytes_eq, codes, drop, if◌then◌else◌, length}
 use Rattle.check_notes.specs.CommonNotes.{bare_note, block_note, compared_note, const_note, element_note, field_note, implied_note, increase_note, join_note, jump_note, name_note, number_note, sequence_note}
-use Rattle.check_notes.specs.CommonNotes.{star_note, tilde_note, value_note}
+use Rattle.check_notes.specs.CommonNotes.{star_note, structure_note, tilde_note, value_note}
 use Rattle.check_notes.specs.Words.{begins, has_eight_bytes, has_four_bytes, has_one_byte, has_two_bytes, is_atomic_type, is_jump, is_lock_type, is_number, is_operator, is_sequence_type, is_suffix, is_type}
 use Rattle.litmus_lex.specs.declared.reason.Expected.{Expected}
 use Rattle.litmus_lex.specs.declared.reason.Expected.TheVariants as places
@@ -9,6 +9,10 @@ use Rattle.litmus_lex.specs.declared.reason.Fault.{Fault}
 use Rattle.litmus_lex.specs.declared.reason.Fault.TheVariants as faults
 use Rattle.litmus_lex.specs.declared.sign.Sign.{Sign}
 use Rattle.litmus_lex.specs.declared.sign.Sign.TheVariants as signs
+
+-- what stands behind a token, where the text goes on with these bytes from it on
+unfoldable pub behind_token : (token rest : List ℕ) → List ℕ
+behind_token token rest = drop (length token) rest
 
 -- which type is read in the place of one of these
 unfoldable pub type_note : List ℕ → List ℕ
@@ -99,10 +103,16 @@ unfoldable pub arrow_note : List ℕ → List ℕ
 arrow_note [] = implied_note
 arrow_note (first ∷ others) = field_note
 
+-- an operator of C behind this word, or behind a parenthesis
+unfoldable pub operand_note : List ℕ → List ℕ
+operand_note [] = join_note
+operand_note (first ∷ others) = codes "note: a call has the variable alone: compute behind a load, as `READ_ONCE(*x) + 1`\n"
+
 -- behind a variable in a call, or a part of the condition in parentheses
 unfoldable pub closing_note : List ℕ → List ℕ → List ℕ → List ℕ
 closing_note token before rest =
     if begins rest (codes "->") then arrow_note before
+    else if is_operator token then operand_note before
     else joined_note token rest
 
 -- what to write where this sign is expected
@@ -146,11 +156,22 @@ process_note token =
     then codes "note: no word stands before `P0`, and statements of another function stand in the processes themselves\n"
     else if denies token then codes "note: that it never comes is asked by `~exists (0:r0=1)`\n"
     else if bytes_eq token (codes ";")
-    then codes "note: the first `{` begins the initialization block, so no structure stands before it; no `;` stands behind a process\n"
+    then codes "note: no `;` stands behind a process\n"
     else if bytes_eq token (codes "always") then codes "note: that it always comes is asked by `forall (0:r0=1)`\n"
     else if begins token (codes "P") || begins token (codes "p")
     then codes "note: processes are P0, P1 and so on, in this order and without a gap\n"
     else []
+
+-- a structure of C ends before this token, or behind it
+unfoldable pub ends_structure : (token rest : List ℕ) → Bool
+ends_structure token rest = bytes_eq token (codes ";") || bytes_eq token (codes "{")
+    || begins (behind_token token rest) (codes ";")
+
+-- in the place of the first process
+unfoldable pub first_process_note : (token rest : List ℕ) → List ℕ
+first_process_note token rest =
+    if ends_structure token rest then structure_note
+    else process_note token
 
 -- in the place of a proposition
 unfoldable pub proposition_note : List ℕ → List ℕ
@@ -206,7 +227,9 @@ place_note places.ItemEnd token before rest = item_end_note token
 place_note places.Variable token before rest = item_note token
 place_note places.Value token before rest = initial_note token
 place_note places.Statement token before rest = statement_place_note token
-place_note places.Process token before rest = process_note token
+place_note places.Head token before rest =
+    codes "note: the text begins with `C` and a name, as `C t`, and nothing but comments `(* .. *)` stands before them\n"
+place_note places.Process token before rest = first_process_note token rest
 place_note places.Condition token before rest = process_note token
 place_note places.Proposition token before rest = proposition_note token
 place_note places.End token before rest = joined_note token rest
@@ -244,15 +267,12 @@ unknown_note expected token =
     codes "note: a process has its variables as parameters, as `P0(int *x)`; a pointer in a register is a number: `if (r0) r1 = *b;`\n"
 
 -- in the place of a sign that begins no token
-unfoldable pub stray_note : List ℕ → List ℕ
-stray_note token =
-    if bytes_eq token (codes "#") then codes "note: no macro is read: write in its place what it stands for\n"
+unfoldable pub stray_note : (token rest : List ℕ) → List ℕ
+stray_note token rest =
+    if begins rest (codes "#include") then codes "note: no file is included: leave the line out\n"
+    else if bytes_eq token (codes "#") then codes "note: no macro is read: write in its place what it stands for\n"
     else if bytes_eq token (codes ".") then field_note
     else []
-
--- what stands behind a token, where the text goes on with these bytes from it on
-unfoldable pub behind_token : (token rest : List ℕ) → List ℕ
-behind_token token rest = drop (length token) rest
 
 -- in the place of a variable of the process, which these bytes follow
 unfoldable pub variable_note : List ℕ → List ℕ
@@ -272,7 +292,7 @@ unfoldable pub fault_note : Fault → Expected → (token before rest : List ℕ
 fault_note faults.Token expected token before rest = token_note expected token before rest
 fault_note faults.Variable expected token before rest = variable_note (behind_token token rest)
 fault_note faults.Unknown expected token before rest = unknown_note expected token
-fault_note faults.Stray expected token before rest = stray_note token
+fault_note faults.Stray expected token before rest = stray_note token rest
 fault_note faults.Unclosed expected token before rest = comment_note expected
 fault_note fault expected token before rest = []
 

@@ -309,7 +309,7 @@ fn made_of_others(name: &[u8]) -> &'static str
         return sequence_why(name);
     }
     if name.starts_with(b"smp_cond_load_") {
-        return "note: a wait has a number of tries: `for (i = 0; i < 3; i++) if (!r0) r0 = smp_load_acquire(x);`, and `if (r0) { .. }` round what follows\n";
+        return "note: a wait has a number of tries: `ok = 0; for (i = 0; i < 3; i++) if (!ok) { r0 = smp_load_acquire(x); ok = r0 == 1; }` waits for 1, and `if (ok) { .. }` stands round what follows\n";
     }
     if name.starts_with(b"wait_") {
         return wait_note();
@@ -336,27 +336,50 @@ fn exchanges(name: &[u8]) -> bool
         || name.starts_with(b"atomic_try_cmpxchg")
 }
 
-/// A call that changes an atomic variable and gives its value.
-#[tactic(auto, unfolding(crate::specs::CallNotes::gives_value))]
-fn gives_value(name: &[u8]) -> bool
-    ensures { result ≡ spec.gives_value name.now }
+/// A call that adds to an atomic variable and gives its value, or whether it was added to.
+#[tactic(auto, unfolding(crate::specs::CallNotes::gives_sum))]
+fn gives_sum(name: &[u8]) -> bool
+    ensures { result ≡ spec.gives_sum name.now }
 {
-    name.starts_with(b"atomic_fetch_")
+    name.starts_with(b"atomic_fetch_add")
+        || name.starts_with(b"atomic_fetch_inc")
         || name.starts_with(b"atomic_inc_")
-        || name.starts_with(b"atomic_dec_")
         || name.starts_with(b"atomic_add_")
-        || name.starts_with(b"atomic_sub_")
         || name.starts_with(b"refcount_inc_")
+        || name.starts_with(b"refcount_add_")
 }
 
-/// A call that counts references and gives whether one is left.
-#[tactic(auto, unfolding(crate::specs::CallNotes::counts_down))]
-fn counts_down(name: &[u8]) -> bool
-    ensures { result ≡ spec.counts_down name.now }
+/// A call that takes from an atomic variable and gives its value, or whether it is 0.
+#[tactic(auto, unfolding(crate::specs::CallNotes::gives_difference))]
+fn gives_difference(name: &[u8]) -> bool
+    ensures { result ≡ spec.gives_difference name.now }
 {
-    name.starts_with(b"refcount_dec_")
+    name.starts_with(b"atomic_fetch_sub")
+        || name.starts_with(b"atomic_fetch_dec")
+        || name.starts_with(b"atomic_dec_")
+        || name.starts_with(b"atomic_sub_")
+        || name.starts_with(b"refcount_dec_")
         || name.starts_with(b"refcount_sub_")
-        || name.starts_with(b"refcount_add_")
+}
+
+/// The line on a call that changes bits of an atomic variable.
+#[tactic(auto, unfolding(crate::specs::CallNotes::bits_why))]
+fn bits_why(name: &[u8]) -> &'static str
+    ensures { result.now ≡ spec.bits_why name.now }
+{
+    if name.starts_with(b"atomic_or") || name.starts_with(b"atomic_fetch_or") {
+        return "note: of an `int` in each task: `ok = 0; for (i = 0; i < 3; i++) if (!ok) { r0 = READ_ONCE(*f); r1 = cmpxchg(f, r0, r0 | 1); ok = r1 == r0; }`\n";
+    }
+    if name.starts_with(b"atomic_andnot") || name.starts_with(b"atomic_fetch_andnot") {
+        return "note: of an `int` in each task: `ok = 0; for (i = 0; i < 3; i++) if (!ok) { r0 = READ_ONCE(*f); r1 = cmpxchg(f, r0, r0 & ~1); ok = r1 == r0; }`\n";
+    }
+    if name.starts_with(b"atomic_and") || name.starts_with(b"atomic_fetch_and") {
+        return "note: of an `int` in each task: `ok = 0; for (i = 0; i < 3; i++) if (!ok) { r0 = READ_ONCE(*f); r1 = cmpxchg(f, r0, r0 & 1); ok = r1 == r0; }`\n";
+    }
+    if name.starts_with(b"atomic_xor") || name.starts_with(b"atomic_fetch_xor") {
+        return "note: of an `int` in each task: `ok = 0; for (i = 0; i < 3; i++) if (!ok) { r0 = READ_ONCE(*f); r1 = cmpxchg(f, r0, r0 ^ 1); ok = r1 == r0; }`\n";
+    }
+    atomic_note()
 }
 
 /// The line on a call of an atomic variable.
@@ -367,8 +390,11 @@ fn atomic_why(name: &[u8]) -> &'static str
     if exchanges(name) {
         return "note: of an `int` in each task write `xchg(f, 1)` or `cmpxchg(f, 0, 1)`, and READ_ONCE and WRITE_ONCE for atomic_read and atomic_set\n";
     }
-    if gives_value(name) || counts_down(name) {
+    if gives_sum(name) {
         return "note: of an `int` in each task: `ok = 0; for (i = 0; i < 3; i++) if (!ok) { r0 = READ_ONCE(*f); r1 = cmpxchg(f, r0, r0 + 1); ok = r1 == r0; }`\n";
+    }
+    if gives_difference(name) {
+        return "note: of an `int` in each task: `ok = 0; for (i = 0; i < 3; i++) if (!ok) { r0 = READ_ONCE(*f); r1 = cmpxchg(f, r0, r0 - 1); ok = r1 == r0; }`\n";
     }
     if name == b"atomic_sub".as_slice() {
         return "note: write `atomic_add(-1, f)`\n";
@@ -376,7 +402,7 @@ fn atomic_why(name: &[u8]) -> &'static str
     if name.starts_with(b"refcount_") {
         return "note: of an `atomic_t` write `atomic_inc(f)`, `atomic_dec(f)`, `atomic_read(f)` or `atomic_set(f, 1)`\n";
     }
-    atomic_note()
+    bits_why(name)
 }
 
 /// A call of an atomic variable.

@@ -40,7 +40,15 @@ pub(crate) fn star_note() -> &'static str
 pub(crate) fn wait_note() -> &'static str
     ensures { result.now ≡ spec.wait_note }
 {
-    "note: a wait has a number of tries: `for (i = 0; i < 3; i++) if (!r0) r0 = READ_ONCE(*x);`, and `if (r0) { .. }` round what follows\n"
+    "note: a wait has a number of tries: `ok = 0; for (i = 0; i < 3; i++) if (!ok) { r0 = READ_ONCE(*x); ok = r0 == 1; }` waits for 1, with `ok = (r0 & 1) == 0;` for bit 0 to be 0; `if (ok) { .. }` stands round what follows\n"
+}
+
+/// A loop ends.
+#[tactic(auto, unfolding(crate::specs::CommonNotes::turns_note))]
+pub(crate) fn turns_note() -> &'static str
+    ensures { result.now ≡ spec.turns_note }
+{
+    "note: a loop has a number of turns: `ok = 0; for (i = 0; i < 3; i++) if (!ok) { r0 = *x; ok = r0 == 1; }` ends once `r0` is 1, and `if (ok) { .. }` stands round what follows\n"
 }
 
 /// That `~` is what says that something isn't so.
@@ -49,6 +57,14 @@ pub(crate) fn tilde_note() -> &'static str
     ensures { result.now ≡ spec.tilde_note }
 {
     "note: in the condition `~` stands before what isn't so, as `~0:r0=1`\n"
+}
+
+/// A structure has no place before the processes.
+#[tactic(auto, unfolding(crate::specs::CommonNotes::structure_note))]
+pub(crate) fn structure_note() -> &'static str
+    ensures { result.now ≡ spec.structure_note }
+{
+    "note: the first `{` begins the initialization block, with no `;` behind it: leave the structure out, and write a variable for each field, as `P0(int *msg_f, int *msg_g)`\n"
 }
 
 /// A field has no name of its own here.
@@ -128,7 +144,7 @@ pub(crate) fn const_note() -> &'static str
 pub(crate) fn increase_note() -> &'static str
     ensures { result.now ≡ spec.increase_note }
 {
-    "note: write `(*x)++`, or `r0 = r0 + 1`\n"
+    "note: write `(*x)++;` or `r0 = r0 + 1;` as a statement of its own, and for `r0 = (*x)++;` write `r0 = *x; *x = r0 + 1;`\n"
 }
 
 /// A variable of the condition has no `*`.

@@ -5,7 +5,7 @@ ghost use Rattle.check_notes.specs.Notes as spec;
 
 use crate::call_notes::call_why;
 use crate::common_notes::{
-    block_note, field_note, jump_note, name_note, pointer_note, star_note, value_note, wait_note,
+    block_note, field_note, name_note, pointer_note, star_note, turns_note, value_note, wait_note,
 };
 use crate::syntax_notes::{behind_token, fault_note, is_part, part_note};
 use litmus_lex::{Expected, Sign, Unread};
@@ -23,16 +23,44 @@ fn section_why(name: &[u8]) -> &'static str
     }
 }
 
-/// The line on a loop that waits.
+/// The line on a loop that waits, or that has a turn before it asks whether it ends.
 #[tactic(auto, unfolding(crate::specs::Notes::loop_why))]
 fn loop_why(word: &[u8]) -> &'static str
     ensures { result.now ≡ spec.loop_why word.now }
 {
-    if word == b"while".as_slice() || word == b"do".as_slice() {
-        wait_note()
-    } else {
-        ""
+    if word == b"while".as_slice() {
+        return wait_note();
     }
+    if word == b"do".as_slice() {
+        return turns_note();
+    }
+    ""
+}
+
+/// The line on the head of a loop that leaves the form that is read where this is expected.
+#[tactic(auto, unfolding(crate::specs::Notes::head_why))]
+fn head_why(expected: Expected) -> &'static str
+    ensures { result.now ≡ spec.head_why expected }
+{
+    match expected {
+        Expected::Register =>
+            "note: a register stands there without a type, as in `for (i = 0; i < 3; i++)`, and need not be declared\n",
+        Expected::Number =>
+            "note: the number of turns is a number: write the greatest, as in `for (i = 0; i < 3; i++) if (i < r0) { .. }`\n",
+        _ =>
+            "note: a loop counts up from 0 by 1, below a number: for 1 to 2 write `for (i = 0; i < 2; i++) { j = i + 1; .. }`\n",
+    }
+}
+
+/// The line on the head of a loop that leaves that form at this token.
+#[tactic(auto, unfolding(crate::specs::Notes::form_why))]
+fn form_why(expected: Expected, token: &[u8]) -> &'static str
+    ensures { result.now ≡ spec.form_why expected token.now }
+{
+    if token == b";".as_slice() {
+        return turns_note();
+    }
+    head_why(expected)
 }
 
 /// A structure of C: a mutex, or one with fields.
@@ -63,6 +91,20 @@ fn word_why(word: &[u8], rest: &[u8]) -> &'static str
     ""
 }
 
+/// The line on a division of C.
+#[tactic(auto, unfolding(crate::specs::Notes::division_why))]
+fn division_why(sign: &[u8]) -> &'static str
+    ensures { result.now ≡ spec.division_why sign.now }
+{
+    if sign == b"/".as_slice() {
+        return "note: of a register from 0 to 5, as `r0 = *x;` loads, `r0 / 2` is `(r0 >= 2) + (r0 >= 4)`; of two numbers write the result\n";
+    }
+    if sign == b"%".as_slice() {
+        return "note: of a register, as `r0 = *x;` loads, `r0 % 4` is `r0 & 3` where it isn't negative, and `r0 % 3` is `r0 - 3 * (r0 >= 3)` from 0 to 5\n";
+    }
+    ""
+}
+
 /// The line on an operator of C.
 #[tactic(auto, unfolding(crate::specs::Notes::operator_why))]
 fn operator_why(sign: &[u8]) -> &'static str
@@ -83,7 +125,7 @@ fn operator_why(sign: &[u8]) -> &'static str
     if sign == b">>".as_slice() {
         return "note: a bit is tested by `r0 & 4`\n";
     }
-    ""
+    division_why(sign)
 }
 
 /// An address where this is expected.
@@ -113,6 +155,7 @@ fn type_why(expected: Expected) -> &'static str
             "note: an atomic variable is an `atomic_t *f`; an `int` has READ_ONCE(*f), WRITE_ONCE(*f, 1), xchg(f, 1) and cmpxchg(f, 0, 1)\n",
         Expected::LockVariable =>
             "note: a lock is a `spinlock_t *l`; one that is tried is an `int`, taken in each task by `r0 = cmpxchg(l, 0, 1);` where `r0` is 0\n",
+        Expected::MemoryVariable => "note: a lock has no bytes: write a variable of another type\n",
         _ => "",
     }
 }
@@ -159,8 +202,11 @@ fn why(unread: Unread, expected: Expected, token: &[u8], before: &[u8], rest: &[
         Unread::Name => name_why(behind_token(token, rest)),
         Unread::LockValue =>
             "note: an item `spinlock_t l` has no value, and the condition no lock\n",
-        Unread::Counter => jump_note(),
-        _ => "",
+        Unread::Counter =>
+            "note: the loop alone changes the register that it counts with: assign another one, and to end sooner write `ok = 1;` and `if (!ok) { .. }` in the loop\n",
+        Unread::LoopForm => form_why(expected, token),
+        Unread::TwoTypes =>
+            "note: a variable has one type: write the same one in each process and in its item, as `int *x` and `{ int x; }`\n",
     }
 }
 

@@ -6,7 +6,7 @@ ghost use Rattle.check_notes.specs.SyntaxNotes as spec;
 use crate::common_notes::{
     bare_note, block_note, compared_note, const_note, element_note, field_note, implied_note,
     increase_note, join_note, jump_note, name_note, number_note, sequence_note, star_note,
-    tilde_note, value_note,
+    structure_note, tilde_note, value_note,
 };
 use crate::words::{
     has_eight_bytes, has_four_bytes, has_one_byte, has_two_bytes, is_atomic_type, is_jump,
@@ -205,6 +205,18 @@ fn arrow_note(before: &[u8]) -> &'static str
     }
 }
 
+/// An operator of C behind this word, or behind a parenthesis.
+#[tactic(auto, unfolding(crate::specs::SyntaxNotes::operand_note))]
+fn operand_note(before: &[u8]) -> &'static str
+    ensures { result.now ≡ spec.operand_note before.now }
+{
+    match before {
+        [] => join_note(),
+        [_, ..] =>
+            "note: a call has the variable alone: compute behind a load, as `READ_ONCE(*x) + 1`\n",
+    }
+}
+
 /// Behind a variable in a call, or a part of the condition in parentheses.
 #[tactic(auto, unfolding(crate::specs::SyntaxNotes::closing_note))]
 fn closing_note(token: &[u8], before: &[u8], rest: &[u8]) -> &'static str
@@ -212,6 +224,9 @@ fn closing_note(token: &[u8], before: &[u8], rest: &[u8]) -> &'static str
 {
     if rest.starts_with(b"->") {
         return arrow_note(before);
+    }
+    if is_operator(token) {
+        return operand_note(before);
     }
     joined_note(token, rest)
 }
@@ -287,7 +302,7 @@ fn process_note(token: &[u8]) -> &'static str
         return "note: that it never comes is asked by `~exists (0:r0=1)`\n";
     }
     if token == b";".as_slice() {
-        return "note: the first `{` begins the initialization block, so no structure stands before it; no `;` stands behind a process\n";
+        return "note: no `;` stands behind a process\n";
     }
     if token == b"always".as_slice() {
         return "note: that it always comes is asked by `forall (0:r0=1)`\n";
@@ -296,6 +311,27 @@ fn process_note(token: &[u8]) -> &'static str
         return "note: processes are P0, P1 and so on, in this order and without a gap\n";
     }
     ""
+}
+
+/// A structure of C ends before this token, or behind it.
+#[tactic(auto, unfolding(crate::specs::SyntaxNotes::ends_structure))]
+fn ends_structure(token: &[u8], rest: &[u8]) -> bool
+    ensures { result ≡ spec.ends_structure token.now rest.now }
+{
+    token == b";".as_slice()
+        || token == b"{".as_slice()
+        || behind_token(token, rest).starts_with(b";")
+}
+
+/// In the place of the first process.
+#[tactic(auto, unfolding(crate::specs::SyntaxNotes::first_process_note))]
+fn first_process_note(token: &[u8], rest: &[u8]) -> &'static str
+    ensures { result.now ≡ spec.first_process_note token.now rest.now }
+{
+    if ends_structure(token, rest) {
+        return structure_note();
+    }
+    process_note(token)
 }
 
 /// In the place of a proposition.
@@ -397,7 +433,10 @@ fn place_note(expected: Expected, token: &[u8], before: &[u8], rest: &[u8]) -> &
         Expected::Variable => item_note(token),
         Expected::Value => initial_note(token),
         Expected::Statement => statement_place_note(token),
-        Expected::Process | Expected::Condition => process_note(token),
+        Expected::Head =>
+            "note: the text begins with `C` and a name, as `C t`, and nothing but comments `(* .. *)` stands before them\n",
+        Expected::Process => first_process_note(token, rest),
+        Expected::Condition => process_note(token),
         Expected::Proposition => proposition_note(token),
         Expected::End | Expected::Operator => joined_note(token, rest),
         Expected::IntegerVariable
@@ -463,9 +502,12 @@ fn unknown_note(expected: Expected, token: &[u8]) -> &'static str
 
 /// In the place of a sign that begins no token.
 #[tactic(auto, unfolding(crate::specs::SyntaxNotes::stray_note))]
-fn stray_note(token: &[u8]) -> &'static str
-    ensures { result.now ≡ spec.stray_note token.now }
+fn stray_note(token: &[u8], rest: &[u8]) -> &'static str
+    ensures { result.now ≡ spec.stray_note token.now rest.now }
 {
+    if rest.starts_with(b"#include") {
+        return "note: no file is included: leave the line out\n";
+    }
     if token == b"#".as_slice() {
         return "note: no macro is read: write in its place what it stands for\n";
     }
@@ -527,7 +569,7 @@ pub(crate) fn fault_note(
         Fault::Token => token_note(expected, token, before, rest),
         Fault::Variable => variable_note(behind_token(token, rest)),
         Fault::Unknown => unknown_note(expected, token),
-        Fault::Stray => stray_note(token),
+        Fault::Stray => stray_note(token, rest),
         Fault::Unclosed => comment_note(expected),
         _ => "",
     }
