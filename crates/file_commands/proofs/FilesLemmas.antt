@@ -223,6 +223,7 @@ none_by_format name search_formats.Text status why none = refl
 none_by_format name search_formats.Json status why none = absurd (cc)
 none_by_format name search_formats.Csv status why none = absurd (cc)
 none_by_format name search_formats.Herd status why none = refl
+none_by_format name (search_formats.Part part parts) status why none = refl
 
 pub none_by_rows : (work : Work) (name : List ℕ) (status : ℕ) (why : Refusal) → has_rows work ≡ false → unsearched_text work name status why ≡ []
 none_by_rows (works.Races work) name status why none = refl

@@ -35,6 +35,7 @@ search_format_of search_asked.Text = search_formats.Text
 search_format_of search_asked.Json = search_formats.Json
 search_format_of search_asked.Csv = search_formats.Csv
 search_format_of search_asked.Herd = search_formats.Herd
+search_format_of (search_asked.Part part parts) = search_formats.Part part parts
 
 -- how many preemptions a schedule may have that is searched
 abbrev pub preemptions_of : Switches → Preemptions

@@ -67,4 +67,5 @@ complaint_status_of (complaint.Usage error) = 64
 complaint_status_of (complaint.Failure error) = status_of error
 complaint_status_of (complaint.Explained error lines) = status_of error
 complaint_status_of (complaint.Overwrites lines) = 64
+complaint_status_of (complaint.Unjoined lines) = 65
 complaint_status_of (complaint.Warned lines) = 0

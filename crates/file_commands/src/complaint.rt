@@ -5,7 +5,7 @@ ghost use Rattle.file_commands.specs.Statuses.{complaint_status_of};
 ghost use Rattle.file_commands.specs.declared.failure.Failure.TheVariants.{OutOfMemory};
 ghost use Rattle.file_commands.specs.declared.complaint.Complaint.TheVariants as complaints;
 
-use crate::failure::{Failure, NO_REPORT, USAGE};
+use crate::failure::{Failure, NO_REPORT, REFUSED, USAGE};
 use diagnostics::check_output::Lines;
 use std::alloc::AllocError;
 use thiserror::Error;
@@ -25,6 +25,9 @@ pub enum Complaint {
     /// What comes of a file would be written over it, as this line says.
     #[error("kcsan_litmus: {0}")]
     Overwrites(Lines),
+    /// Parts of a search are no whole one, as this line says.
+    #[error("kcsan_litmus: {0}")]
+    Unjoined(Lines),
     /// The warnings on a file that is read, a line each.
     #[error("{0}")]
     Warned(Lines),
@@ -46,6 +49,7 @@ impl Complaint {
         match self {
             Complaint::Usage(_) | Complaint::Overwrites(_) => USAGE,
             Complaint::Failure(failure) | Complaint::Explained(failure, _) => failure.status(),
+            Complaint::Unjoined(_) => REFUSED,
             Complaint::Warned(_) => NO_REPORT,
         }
     }

@@ -424,6 +424,7 @@ fn search_format(format: SearchFormat) -> search_formats::Format
         SearchFormat::Json => search_formats::Format::Json,
         SearchFormat::Csv => search_formats::Format::Csv,
         SearchFormat::Herd => search_formats::Format::Herd,
+        SearchFormat::Part { part, parts } => search_formats::Format::Part { part, parts },
     }
 }
 

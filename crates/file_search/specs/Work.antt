@@ -30,6 +30,7 @@ is_search_text search_formats.Text = true
 is_search_text search_formats.Json = false
 is_search_text search_formats.Csv = false
 is_search_text search_formats.Herd = false
+is_search_text (search_formats.Part part parts) = false
 
 -- text is written of each file
 abbrev pub is_text : Work → Bool
@@ -42,6 +43,7 @@ has_search_rows search_formats.Text = false
 has_search_rows search_formats.Json = true
 has_search_rows search_formats.Csv = true
 has_search_rows search_formats.Herd = false
+has_search_rows (search_formats.Part part parts) = false
 
 abbrev pub has_rows : Work → Bool
 has_rows (works.Races work) = false

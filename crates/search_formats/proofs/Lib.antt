@@ -1,4 +1,5 @@
 mod Kept
+mod Parts
 mod Pieces
 mod Taken
 mod Written

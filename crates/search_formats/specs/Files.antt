@@ -1,11 +1,13 @@
 -- What comes of a litmus file whose program is searched.
-use Rattle.std.specs.Prelude.{◌≡◌, ◌==◌, ℕ, Bool, Err, List, [], None, Ok, Result, Some, false, length, not, true}
+use Rattle.std.specs.Prelude.{◌≡◌, ◌==◌, ◌&&◌, ℕ, Bool, Err, List, [], None, Ok, Result, Some, false, length, nat_le, nat_lt, not, true}
 use Rattle.access_types.specs.Sites.{AccessMap}
 use Rattle.context_bound.specs.completeness.Reaches.{AreEnough}
 use Rattle.litmus_parse.specs.Read.{IsReadAs}
 use Rattle.litmus_step.specs.Runs.{run_of}
 use Rattle.litmus_syntax.specs.Views.{program_of}
 use Rattle.litmus_syntax.specs.declared.program.Program.{Program}
+use Rattle.part_search.specs.Parted.{IsPartText}
+use Rattle.part_search.specs.declared.parted.PartSearched.{PartSearched}
 use Rattle.prepared_program.specs.declared.program_sites.settings.Settings.{Settings}
 use Rattle.prepared_program.specs.program_layout.Places.{AreFit, places_of}
 use Rattle.prepared_program.specs.program_sites.Sites.{AreSitesOf}
@@ -21,7 +23,7 @@ use Rattle.search_json.specs.declared.extent.Extent.{Extent}
 use Rattle.search_formats.specs.declared.wanted.FileSearched.{FileSearched}
 use Rattle.search_formats.specs.declared.wanted.FileWanted.{FileWanted}
 use Rattle.search_formats.specs.declared.wanted.Format.{Format}
-use Rattle.search_formats.specs.declared.wanted.Format.TheVariants.{Csv, Herd, Json, Text}
+use Rattle.search_formats.specs.declared.wanted.Format.TheVariants.{Csv, Herd, Json, Part, Text}
 use Rattle.search_formats.specs.declared.wanted.Preemptions.{Preemptions}
 use Rattle.search_formats.specs.declared.wanted.Preemptions.TheVariants as preemptions
 use Rattle.search_output.specs.Lists.{all_searched}
@@ -63,6 +65,10 @@ abbrev pub kept : Result SearchText EngineError → Result FileSearched EngineEr
 kept (Ok found) = Ok (text_kept found)
 kept (Err error) = Err error
 
+abbrev pub part_kept : Result PartSearched EngineError → Result FileSearched EngineError
+part_kept (Ok found) = Ok (record { output = found.output; raced = found.raced; stopped = found.stopped })
+part_kept (Err error) = Err error
+
 -- How far a bounded search went, and a search of all states.
 abbrev pub bounded_extent : (nodes : ℕ) → Stopped → Extent
 bounded_extent nodes how = record { bounded = true; visited = nodes; stopped = is_stopped how }
@@ -70,11 +76,12 @@ bounded_extent nodes how = record { bounded = true; visited = nodes; stopped = i
 abbrev pub states_extent : (states : ℕ) → Stopped → Extent
 states_extent states how = record { bounded = false; visited = states; stopped = is_stopped how }
 
--- What is written in a format of what is found of a program, whose sites stand at these places in the text. As text the
--- searches write it.
+-- What is written in a format of what is found of a program, whose sites stand at these places in the text. As text, and
+-- of a part, the searches write it.
 abbrev pub written : Format → (name : List ℕ) → Program → (text : List ℕ) → (spots : List (List ℕ)) → AccessMap → Settings
     → (reported ended : SearchFindings) → Extent → List ℕ
 written Text name program text spots sites settings reported ended extent = []
+written (Part part parts) name program text spots sites settings reported ended extent = []
 written Herd name program text spots sites settings reported ended extent =
     herd_text (program_of program) (not (length reported.reports == 0)) ended
 written Csv name program text spots sites settings reported ended extent = csv_text name sites reported ended extent
@@ -140,6 +147,25 @@ IsTextFound (preemptions.AtMost switches) text settings wanted raced stopped out
 IsTextFound preemptions.Any text settings wanted raced stopped output =
     AllIsSearched text settings (wanted_of_all wanted) raced stopped output None
 
+-- there is a part of this number
+abbrev pub is_part : (part parts : ℕ) → Bool
+is_part part parts = nat_lt 0 part && nat_le part parts
+
+-- The output is the text of this part of a search with so many preemptions, if there is such a part. Else, and where any
+-- number of preemptions is wanted, all is searched, and nothing is written.
+abbrev pub IsPartIf : (there : Bool) → Preemptions → (part parts : ℕ) → (name text : List ℕ) → Settings → FileWanted
+    → (raced stopped : Bool) → (output : List ℕ) → Type 0
+IsPartIf true (preemptions.AtMost switches) part parts name text settings wanted raced stopped output =
+    IsPartText name text settings (wanted_within wanted switches) part parts raced stopped output
+IsPartIf true preemptions.Any part parts name text settings wanted raced stopped output =
+    IsWritten name text settings wanted raced stopped output
+IsPartIf false most part parts name text settings wanted raced stopped output = IsWritten name text settings wanted raced stopped output
+
+abbrev pub IsPartFound : (part parts : ℕ) → (name text : List ℕ) → Settings → FileWanted → (raced stopped : Bool)
+    → (output : List ℕ) → Type 0
+IsPartFound part parts name text settings wanted raced stopped output =
+    IsPartIf (is_part part parts) wanted.preemptions part parts name text settings wanted raced stopped output
+
 -- so it is in a format
 abbrev pub IsFoundIn : Format → (name text : List ℕ) → Settings → FileWanted → (raced stopped : Bool) → (output : List ℕ) → Type 0
 IsFoundIn Text name text settings wanted raced stopped output =
@@ -147,6 +173,8 @@ IsFoundIn Text name text settings wanted raced stopped output =
 IsFoundIn Json name text settings wanted raced stopped output = IsWritten name text settings wanted raced stopped output
 IsFoundIn Csv name text settings wanted raced stopped output = IsWritten name text settings wanted raced stopped output
 IsFoundIn Herd name text settings wanted raced stopped output = IsWritten name text settings wanted raced stopped output
+IsFoundIn (Part part parts) name text settings wanted raced stopped output =
+    IsPartFound part parts name text settings wanted raced stopped output
 
 -- The output is what is written of the program of the text, in a file of this name, in the format that is wanted.
 abbrev pub IsFileSearched : (name text : List ℕ) → Settings → FileWanted → (raced stopped : Bool) → (output : List ℕ) → Type 0

@@ -11,7 +11,7 @@ use Rattle.search_formats.specs.Rows.{refused_row}
 use Rattle.search_formats.specs.declared.refusal.Refusal.{Refusal}
 use Rattle.search_formats.specs.declared.refusal.Refusal.TheVariants as refusals
 use Rattle.search_formats.specs.declared.wanted.Format.{Format}
-use Rattle.search_formats.specs.declared.wanted.Format.TheVariants.{Csv, Herd, Json, Text}
+use Rattle.search_formats.specs.declared.wanted.Format.TheVariants.{Csv, Herd, Json, Part, Text}
 
 -- what a text has too much of
 abbrev pub limit_word : Limit → List ℕ
@@ -51,3 +51,4 @@ refused_text name Text status why = []
 refused_text name Json status why = refused_json name status (refusal_text why)
 refused_text name Csv status why = refused_row name status (refusal_text why)
 refused_text name Herd status why = []
+refused_text name (Part part parts) status why = []

@@ -4,7 +4,7 @@ use Rattle.std.specs.Fmt.{decimal}
 use Rattle.std.specs.List.{concat}
 use Rattle.output_pieces.specs.declared.file_counts.FileCounts.{FileCounts}
 use Rattle.search_formats.specs.declared.wanted.Format.{Format}
-use Rattle.search_formats.specs.declared.wanted.Format.TheVariants.{Csv, Herd, Json, Text}
+use Rattle.search_formats.specs.declared.wanted.Format.TheVariants.{Csv, Herd, Json, Part, Text}
 
 -- what stands before all files: in CSV the names of the columns
 abbrev pub heading : Format → List ℕ
@@ -12,6 +12,7 @@ heading Text = []
 heading Json = []
 heading Csv = codes "file,status,reports,pairs,states,stuck,positive,negative,error\n"
 heading Herd = []
+heading (Part part parts) = []
 
 -- a count, and what is counted
 unfoldable pub counted : (count : ℕ) → (words : List ℕ) → List ℕ

@@ -84,7 +84,7 @@ pub fn refused_text(
     ensures { IfOk result (λ text. text.items ≡ spec.refused_text name.now format status why) }
 {
     match format {
-        Format::Text | Format::Herd => Ok(Vec::new(alloc)),
+        Format::Text | Format::Herd | Format::Part { .. } => Ok(Vec::new(alloc)),
         Format::Csv => {
             let why = refusal_text(alloc, why)?;
             refused_row(alloc, name, status, &why)

@@ -14,7 +14,7 @@ pub fn heading(format: Format) -> &'static [u8]
 {
     match format {
         Format::Csv => b"file,status,reports,pairs,states,stuck,positive,negative,error\n",
-        Format::Text | Format::Json | Format::Herd => b"",
+        Format::Text | Format::Json | Format::Herd | Format::Part { .. } => b"",
     }
 }
 

@@ -7,6 +7,8 @@ pub enum Format {
     Json,
     Csv,
     Herd,
+    /// As JSON, of one part of a search with a number of preemptions: its number, from 1, and how many parts there are.
+    Part { part: u64, parts: u64 },
 }
 
 /// How many preemptions a schedule that is searched may have.

@@ -1,0 +1,10 @@
+mod Apart
+mod AtRun
+mod FirstStops
+mod Joining
+mod Lists
+mod Ordered
+mod Over
+mod Readied
+mod Told
+mod Wholes

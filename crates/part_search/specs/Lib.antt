@@ -1,0 +1,4 @@
+pub mod Settings
+pub mod Parted
+pub mod Order
+pub mod Joined
