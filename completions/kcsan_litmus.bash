@@ -24,7 +24,7 @@ _kcsan_litmus_list() {
 
 _kcsan_litmus() {
   local cur=${COMP_WORDS[COMP_CWORD]} before=${COMP_WORDS[COMP_CWORD - 1]} command=${COMP_WORDS[1]}
-  local commands="step run search races replay show check help" formats="text json" options=
+  local commands="step run search join races replay show check help" formats="text json" options=
   local settings="--place --slots --skip --randomize --seed --strict --value-change-only --plain-writes-atomic
     --unknown-origin --kconfig --word --turns"
   COMPREPLY=()
@@ -37,9 +37,10 @@ _kcsan_litmus() {
     step) options="--schedule -s --where --trace -o --color $settings" ;;
     run) options="--runs -r --delay --jobs --stop-at-first --keep-going --where --trace -o --color $settings" ;;
     search)
-      options="--switches --limit --seconds --jobs --format --settings --where --trace -o --color $settings"
+      options="--switches --part --limit --seconds --jobs --format --settings --where --trace -o --color $settings"
       formats="text json csv herd"
       ;;
+    join) options="--where --settings --color" ;;
     races) options="--limit --seconds --jobs --format --html --color $settings" ;;
     replay) options="--color" ;;
     show) options="--source --slots --svg -o --ascii" ;;
@@ -62,12 +63,12 @@ _kcsan_litmus() {
     --trace | --svg | --html | -o) _kcsan_litmus_files '*' ;;
     @) _kcsan_litmus_list ;;
     --schedule | -s | --place | --slots | --skip | --seed | --turns) ;;
-    --runs | -r | --delay | --jobs | --limit | --seconds) ;;
+    --runs | -r | --delay | --jobs | --part | --limit | --seconds) ;;
     *)
       case $command/$cur in
         */-*) _kcsan_litmus_words "$options --help -h" ;;
         help/*) _kcsan_litmus_words "$commands" ;;
-        replay/* | show/*) _kcsan_litmus_files '*' ;;
+        replay/* | show/* | join/*) _kcsan_litmus_files '*' ;;
         *) _kcsan_litmus_files '*.litmus' ;;
       esac
       ;;

@@ -1,11 +1,11 @@
 # Completion of kcsan_litmus for fish: copy this file to ~/.config/fish/completions/.
 # It completes ./kcsan_litmus too. tests/options compares it with the help of the program.
 
-set -l commands step run search races replay show check help
+set -l commands step run search join races replay show check help
 set -l seen __fish_seen_subcommand_from
 set -l litmus "$seen step run search races check"
 set -l executing "$seen step run search races"
-set -l coloring "$seen step run search races replay check"
+set -l coloring "$seen step run search join races replay check"
 
 complete -c kcsan_litmus -f
 complete -c kcsan_litmus -s h -l help -d 'Print help'
@@ -13,17 +13,18 @@ complete -c kcsan_litmus -n "not $seen $commands" -s V -l version -d 'Print the 
 complete -c kcsan_litmus -n "not $seen $commands" -a step -d 'Execute a program once, by a schedule'
 complete -c kcsan_litmus -n "not $seen $commands" -a run -d 'Run a program on threads'
 complete -c kcsan_litmus -n "not $seen $commands" -a search -d 'Explore the schedules of programs'
+complete -c kcsan_litmus -n "not $seen $commands" -a join -d 'Join the parts of a search'
 complete -c kcsan_litmus -n "not $seen $commands" -a races -d 'Say of each pair of accesses whether it races'
 complete -c kcsan_litmus -n "not $seen $commands" -a replay -d 'Check whether a trace is true'
 complete -c kcsan_litmus -n "not $seen $commands" -a show -d 'Draw a trace'
 complete -c kcsan_litmus -n "not $seen $commands" -a check -d 'Say what litmus files mean'
 complete -c kcsan_litmus -n "not $seen $commands" -a help -d 'Print the help of a command'
 complete -c kcsan_litmus -n "$seen help" -a "$commands"
-complete -c kcsan_litmus -n "$seen replay show" -F
+complete -c kcsan_litmus -n "$seen join replay show" -F
 complete -c kcsan_litmus -n "$litmus" -ka '(__fish_complete_suffix .litmus)'
 
 complete -c kcsan_litmus -n "$seen step check" -s s -l schedule -x -d 'Order of steps, as 0x7,1x9'
-complete -c kcsan_litmus -n "$seen step run search" -l where -d 'Say where each access of a report is'
+complete -c kcsan_litmus -n "$seen step run search join" -l where -d 'Say where each access of a report is'
 complete -c kcsan_litmus -n "$seen step run search" -s o -l trace -rF -d 'Write the trace to this file'
 
 complete -c kcsan_litmus -n "$coloring" -l color -xa 'auto always never' -d 'Colour the text'
@@ -35,10 +36,11 @@ complete -c kcsan_litmus -n "$seen run" -l keep-going -d 'Count stuck runs, and 
 complete -c kcsan_litmus -n "$seen run search races" -l jobs -x -d 'Number of parallel threads'
 
 complete -c kcsan_litmus -n "$seen search" -l switches -xa all -d 'Preemptions at most'
+complete -c kcsan_litmus -n "$seen search" -l part -x -d 'Search part I of N alone, as 1/16'
 complete -c kcsan_litmus -n "$seen search races" -l limit -x -d 'Stop after so many states'
 complete -c kcsan_litmus -n "$seen search races" -l seconds -x -d 'Stop after so many seconds'
 complete -c kcsan_litmus -n "$seen search" -l format -xa 'text json csv herd' -d 'Format of the output'
-complete -c kcsan_litmus -n "$seen search" -l settings -d 'End with a line of the settings'
+complete -c kcsan_litmus -n "$seen search join" -l settings -d 'End with a line of the settings'
 complete -c kcsan_litmus -n "$seen races" -l format -xa 'text json' -d 'Format of the output'
 complete -c kcsan_litmus -n "$seen races" -l html -rF -d 'Write a page of HTML to this file'
 

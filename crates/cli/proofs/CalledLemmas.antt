@@ -19,6 +19,8 @@ asked_step values (requests.Search request) keeps asks =
     absurd (let long : 4 ≡ 6 = ap (λ (text : Text). length text) asks.0 in omega (arith, long))
 asked_step values (requests.Searches request) keeps asks =
     absurd (let long : 4 ≡ 6 = ap (λ (text : Text). length text) asks.0 in omega (arith, long))
+asked_step values (requests.Join request) keeps asks =
+    absurd (let letter : 115 ≡ 106 = ap (λ (text : Text). get_or text 0 0) asks.0 in omega (arith, letter))
 asked_step values (requests.Races request) keeps asks =
     absurd (let long : 4 ≡ 5 = ap (λ (text : Text). length text) asks.0 in omega (arith, long))
 asked_step values (requests.Replay request) keeps asks =
@@ -39,6 +41,8 @@ asked_run values (requests.Search request) keeps asks =
     absurd (let long : 3 ≡ 6 = ap (λ (text : Text). length text) asks.0 in omega (arith, long))
 asked_run values (requests.Searches request) keeps asks =
     absurd (let long : 3 ≡ 6 = ap (λ (text : Text). length text) asks.0 in omega (arith, long))
+asked_run values (requests.Join request) keeps asks =
+    absurd (let long : 3 ≡ 4 = ap (λ (text : Text). length text) asks.0 in omega (arith, long))
 asked_run values (requests.Races request) keeps asks =
     absurd (let long : 3 ≡ 5 = ap (λ (text : Text). length text) asks.0 in omega (arith, long))
 asked_run values (requests.Replay request) keeps asks =
@@ -60,6 +64,8 @@ asked_replay values (requests.Search request) asks =
     absurd (let letter : 114 ≡ 115 = ap (λ (text : Text). get_or text 0 0) asks.0 in omega (arith, letter))
 asked_replay values (requests.Searches request) asks =
     absurd (let letter : 114 ≡ 115 = ap (λ (text : Text). get_or text 0 0) asks.0 in omega (arith, letter))
+asked_replay values (requests.Join request) asks =
+    absurd (let long : 6 ≡ 4 = ap (λ (text : Text). length text) asks.0 in omega (arith, long))
 asked_replay values (requests.Races request) asks =
     absurd (let long : 6 ≡ 5 = ap (λ (text : Text). length text) asks.0 in omega (arith, long))
 asked_replay values (requests.Replay request) asks = (request, asks.1)
@@ -80,6 +86,8 @@ asked_show values (requests.Search request) asks =
     absurd (let long : 4 ≡ 6 = ap (λ (text : Text). length text) asks.0 in omega (arith, long))
 asked_show values (requests.Searches request) asks =
     absurd (let long : 4 ≡ 6 = ap (λ (text : Text). length text) asks.0 in omega (arith, long))
+asked_show values (requests.Join request) asks =
+    absurd (let letter : 115 ≡ 106 = ap (λ (text : Text). get_or text 0 0) asks.0 in omega (arith, letter))
 asked_show values (requests.Races request) asks =
     absurd (let long : 4 ≡ 5 = ap (λ (text : Text). length text) asks.0 in omega (arith, long))
 asked_show values (requests.Replay request) asks =
@@ -92,14 +100,15 @@ asked_show values requests.Calls asks =
 
 -- a command of another name asks for nothing
 pub asked_other : (name : Text) (values : List Row) (request : Request) → (name ≡ codes "step" → ⊥) → (name ≡ codes "run" → ⊥)
-    → (name ≡ codes "search" → ⊥) → (name ≡ codes "races" → ⊥) → (name ≡ codes "replay" → ⊥) → (name ≡ codes "show" → ⊥)
+    → (name ≡ codes "search" → ⊥) → (name ≡ codes "join" → ⊥) → (name ≡ codes "races" → ⊥) → (name ≡ codes "replay" → ⊥) → (name ≡ codes "show" → ⊥)
     → (name ≡ codes "check" → ⊥) → IsAskedBy name values request → ⊥
-asked_other name values (requests.Step request) step run search races replay show check asks = step asks.0
-asked_other name values (requests.Run request) step run search races replay show check asks = run asks.0
-asked_other name values (requests.Search request) step run search races replay show check asks = search asks.0
-asked_other name values (requests.Searches request) step run search races replay show check asks = search asks.0
-asked_other name values (requests.Races request) step run search races replay show check asks = races asks.0
-asked_other name values (requests.Replay request) step run search races replay show check asks = replay asks.0
-asked_other name values (requests.Show request) step run search races replay show check asks = show asks.0
-asked_other name values (requests.Check request) step run search races replay show check asks = check asks.0
-asked_other name values requests.Calls step run search races replay show check asks = check asks.0
+asked_other name values (requests.Step request) step run search join races replay show check asks = step asks.0
+asked_other name values (requests.Run request) step run search join races replay show check asks = run asks.0
+asked_other name values (requests.Search request) step run search join races replay show check asks = search asks.0
+asked_other name values (requests.Searches request) step run search join races replay show check asks = search asks.0
+asked_other name values (requests.Join request) step run search join races replay show check asks = join asks.0
+asked_other name values (requests.Races request) step run search join races replay show check asks = races asks.0
+asked_other name values (requests.Replay request) step run search join races replay show check asks = replay asks.0
+asked_other name values (requests.Show request) step run search join races replay show check asks = show asks.0
+asked_other name values (requests.Check request) step run search join races replay show check asks = check asks.0
+asked_other name values requests.Calls step run search join races replay show check asks = check asks.0

@@ -1,4 +1,6 @@
 mod CalledLemmas
+mod JoinLemmas
+mod PartLemmas
 mod RacesLemmas
 mod SearchLemmas
 mod ValueLemmas

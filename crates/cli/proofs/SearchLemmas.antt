@@ -1,5 +1,5 @@
 -- What `search` is asked for, by its files, its format and its trace.
-use Rattle.std.proofs.Common.{◌≡◌, ◌∙◌, ◌≤◌, ◌<◌, ◌⊎◌, Bor, List, None, Option, Some, ap, arith, codes, false, get_or, inl, inr, is_some, length, map, option_map, refl, sym, true}
+use Rattle.std.proofs.Common.{◌≡◌, ◌∙◌, ◌≤◌, ◌<◌, ◌⊎◌, Bor, List, None, Option, Some, ap, ap₂, arith, codes, false, get_or, inl, inr, is_some, length, map, option_map, refl, subst, sym, true}
 use Rattle.std.proofs.lemmas.List.{length-map}
 use Rattle.std.proofs.lemmas.Option.{same_Some}
 use Rattle.std.proofs.lemmas.Slice.Eq.{bytes_eq-Decides}
@@ -7,8 +7,8 @@ use Rattle.std.specs.Prelude.{Bool, bytes_eq}
 use Rattle.clap.specs.Words.{Row, Text, first_of, first_value, rows_of}
 use Rattle.clap.specs.declared.parser.matches.Found.{Found}
 use Rattle.cli.proofs.ValueLemmas.{no_none, text_read}
-use Rattle.cli.specs.Bounds.{KeepsSearchBounds, KeepsSearchesBounds, MayBeAsked}
-use Rattle.cli.specs.Words.{AskSearch, AskSearches, IsAskedBy, IsSearchFormat, search_format_of, words_of}
+use Rattle.cli.specs.Bounds.{KeepsPart, KeepsSearchBounds, KeepsSearchesBounds, MayBeAsked}
+use Rattle.cli.specs.Words.{AskFormat, AskSearch, AskSearches, IsAskedBy, NamesPart, search_format_of, words_of}
 use Rattle.cli.specs.declared.request.Request.{Request}
 use Rattle.cli.specs.declared.request.Request.TheVariants as requests
 use Rattle.cli.specs.declared.request.SearchFormat.{SearchFormat}
@@ -30,6 +30,8 @@ asked_search values (requests.Run request) keeps asks =
     absurd (let long : 6 ≡ 3 = ap (λ (text : Text). length text) asks.0 in omega (arith, long))
 asked_search values (requests.Search request) keeps asks = inl (request, (keeps, asks.1))
 asked_search values (requests.Searches request) keeps asks = inr (request, (keeps, asks.1))
+asked_search values (requests.Join request) keeps asks =
+    absurd (let long : 6 ≡ 4 = ap (λ (text : Text). length text) asks.0 in omega (arith, long))
 asked_search values (requests.Races request) keeps asks =
     absurd (let long : 6 ≡ 5 = ap (λ (text : Text). length text) asks.0 in omega (arith, long))
 asked_search values (requests.Replay request) keeps asks =
@@ -42,15 +44,24 @@ asked_search values requests.Calls keeps asks =
     absurd (let long : 6 ≡ 5 = ap (λ (text : Text). length text) asks.0 in omega (arith, long))
 
 -- what is asked for has a format
-pub asked_format : (values : List Row) → OneOrSeveral values → (format : SearchFormat) × IsSearchFormat values (codes "format") format
-asked_format values (inl one) = (search_formats.Text, one.1.1.format)
-asked_format values (inr several) = (several.0.format, several.1.1.format)
+pub asked_format : (values : List Row) → OneOrSeveral values → (format : SearchFormat) × (KeepsPart format × AskFormat values format)
+asked_format values (inl one) = (search_formats.Text, (tt, one.1.1.format))
+asked_format values (inr several) = (several.0.format, (several.1.0.part, several.1.1.format))
 
--- the value of an option names one format
-pub one_format : (values : List Row) (option : Text) (one other : SearchFormat) → IsSearchFormat values option one
-    → IsSearchFormat values option other → one ≡ other
-one_format values option one other is are =
-    is.is ∙ (ap search_format_of (same_Some is.name are.name (sym is.given ∙ are.given)) ∙ sym are.is)
+-- a text names one part
+one_part : (text other_text : Text) (one other : SearchFormat) → text ≡ other_text → NamesPart text one → NamesPart other_text other
+    → one ≡ other
+one_part text other_text one other same is are =
+    let names = subst (λ text. NamesPart text one) same is in
+    names.is ∙ (ap₂ search_formats.Part (sym names.number.spelled ∙ are.number.spelled) (sym names.count.spelled ∙ are.count.spelled) ∙ sym are.is)
+
+-- the values ask for one format
+pub one_format : (values : List Row) (one other : SearchFormat) → AskFormat values one → AskFormat values other → one ≡ other
+one_format values one other (inl is) (inl are) = is.1 ∙ sym are.1
+one_format values one other (inl is) (inr are) = absurd (no_none are.text (sym are.given ∙ is.0))
+one_format values one other (inr is) (inl are) = absurd (no_none is.text (sym is.given ∙ are.0))
+one_format values one other (inr is) (inr are) =
+    one_part is.text are.text one other (same_Some is.text are.text (sym is.given ∙ are.given)) is.names are.names
 
 -- as many files are asked for as are given
 pub one_file : (values : List Row) (files : List (Bor Text)) (request : SearchRequest)
@@ -76,22 +87,22 @@ some_file values files given (inr several) =
 
 -- of one file, as text, one is asked for
 pub asked_one : (values : List Row) (files : List (Bor Text)) → map (λ file. file.now) files ≡ words_of (codes "FILE") values
-    → length files < 2 → IsSearchFormat values (codes "format") search_formats.Text → OneOrSeveral values
+    → length files < 2 → AskFormat values search_formats.Text → OneOrSeveral values
     → (one : SearchRequest) × (KeepsSearchBounds one × AskSearch values one)
 asked_one values files given few format (inl one) = one
 asked_one values files given few format (inr several) =
     let long = several_files values files several.0 given several.1.1 in
-    let most = several.1.0.several (one_format values (codes "format") several.0.format search_formats.Text several.1.1.format format) in
+    let most = several.1.0.several (one_format values several.0.format search_formats.Text several.1.1.format format) in
     absurd (omega arith)
 
 -- and else several are, or they are in a format for programs
 pub asked_several : (values : List Row) (files : List (Bor Text)) (format : SearchFormat)
     → map (λ file. file.now) files ≡ words_of (codes "FILE") values
-    → (format ≡ search_formats.Text → 2 ≤ length files) → IsSearchFormat values (codes "format") format → OneOrSeveral values
+    → (format ≡ search_formats.Text → 2 ≤ length files) → AskFormat values format → OneOrSeveral values
     → (several : SearchesRequest) × (KeepsSearchesBounds several × AskSearches values several)
 asked_several values files format given several is (inl one) =
     let long = one_file values files one.0 given one.1.1 in
-    let most = several (one_format values (codes "format") format search_formats.Text is one.1.1.format) in
+    let most = several (one_format values format search_formats.Text is one.1.1.format) in
     absurd (omega arith)
 asked_several values files format given several is (inr asked) = asked
 

@@ -1,5 +1,5 @@
 -- What is read of the values of options.
-use Rattle.std.proofs.Common.{◌≡◌, ◌∙◌, ◌<◌, ◌^◌, ℕ, Bool, true, false, List, Option, None, Some, Result, Ok, Err, IfErr, IfSome, ap, ap₂, arith, get_or, is_some, length}
+use Rattle.std.proofs.Common.{◌≡◌, ◌∙◌, ◌<◌, ◌^◌, ℕ, Bool, true, false, List, Option, None, Some, Result, Ok, Err, IfErr, IfSome, ap, ap₂, is_some}
 use Rattle.std.proofs.Common.{◌≤◌, not, option_map, refl, subst, sym, Bor, ◌&&◌}
 use Rattle.std.proofs.lemmas.Option.{same_Some}
 use Rattle.std.proofs.lemmas.Slice.Eq.{bytes_eq-Decides}
@@ -10,7 +10,7 @@ use Rattle.clap.specs.Words.{ReadsOne, Row, Text, first_of, first_value, is_simp
 use Rattle.clap.specs.declared.parser.matches.Found.{Found}
 use Rattle.clap.proofs.WalkLemmas.{first_value-rows, one_text-rows, raw_values-rows}
 use Rattle.cli.specs.Bounds.{KeepsPreemptions}
-use Rattle.cli.specs.Words.{AreNames, Ask, AskSwitches, IsAskedBy, IsAskedOf, IsFlag, IsNumber, IsNumberIfGiven, check_app, program_app, races_app, replay_app, run_app}
+use Rattle.cli.specs.Words.{AreNames, Ask, AskSwitches, IsAskedOf, IsFlag, IsNumber, IsNumberIfGiven, check_app, join_app, program_app, races_app, replay_app, run_app}
 use Rattle.cli.specs.Words.{search_app, show_app, step_app, with_options, with_settings, words_of}
 use Rattle.cli.specs.declared.program.Names.{Names}
 use Rattle.cli.specs.declared.request.Request.{Request}
@@ -33,7 +33,7 @@ pub kept : (P : ℕ → Type 0) (keeps : Bool) (number : ℕ) → P number → I
 kept P true number holds = holds
 kept P false number holds = tt
 
-never : (number : ℕ) → None ≡ Some number → ⊥
+pub never : (number : ℕ) → None ≡ Some number → ⊥
 never number same = cc
 
 -- a number that was read is spelled by the option's value
@@ -194,11 +194,11 @@ asked_by words names are (Some call) request is asked = record {
 }
 
 pub program_is_simple : (names : Names) → is_simple (program_app names) ≡ true
-unfolding program_app step_app with_options with_settings run_app search_app races_app replay_app show_app check_app
+unfolding program_app step_app with_options with_settings run_app search_app join_app races_app replay_app show_app check_app
 program_is_simple names = refl
 
 pub program_is_free : (names : Names) → is_simple_and_free (program_app names) ≡ true
-unfolding program_app step_app with_options with_settings run_app search_app races_app replay_app show_app check_app
+unfolding program_app step_app with_options with_settings run_app search_app join_app races_app replay_app show_app check_app
 program_is_free names = refl
 
 -- what holds of an error holds of what is answered with it

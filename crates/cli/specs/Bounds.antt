@@ -1,11 +1,13 @@
 -- Within which bounds the numbers of options are.
 use Rattle.std.specs.Prelude.{◌≡◌, ◌<◌, ◌≤◌, IfSome, length}
 use Rattle.cli.specs.declared.request.CheckRequest.{CheckRequest}
+use Rattle.cli.specs.declared.request.JoinRequest.{JoinRequest}
 use Rattle.cli.specs.declared.request.RacesRequest.{RacesRequest}
 use Rattle.cli.specs.declared.request.RunOptions.{RunOptions}
 use Rattle.cli.specs.declared.request.Request.{Request}
 use Rattle.cli.specs.declared.request.Request.TheVariants as requests
 use Rattle.cli.specs.declared.request.RunRequest.{RunRequest}
+use Rattle.cli.specs.declared.request.SearchFormat.{SearchFormat}
 use Rattle.cli.specs.declared.request.SearchFormat.TheVariants as search_formats
 use Rattle.cli.specs.declared.request.SearchRequest.{SearchRequest}
 use Rattle.cli.specs.declared.request.SearchesRequest.{SearchesRequest}
@@ -45,11 +47,20 @@ pub record KeepsSearchBounds (request : SearchRequest) : Type 0 where
   pub jobs_to : request.jobs ≤ 64
   pub options : KeepsBounds request.options
 
+-- a part is one of at most 65,536, which are counted from 1
+abbrev pub KeepsPart : SearchFormat → Type 0
+KeepsPart (search_formats.Part part parts) = (1 ≤ part) × (part ≤ parts) × (parts ≤ 65536)
+KeepsPart search_formats.Text = Unit {0}
+KeepsPart search_formats.Json = Unit {0}
+KeepsPart search_formats.Csv = Unit {0}
+KeepsPart search_formats.Herd = Unit {0}
+
 -- the same bounds for the search of each file: there is one file at least, and where what is found is printed as text,
--- there are two at least
+-- there are two at least; and those of a part
 pub record KeepsSearchesBounds (request : SearchesRequest) : Type 0 where
   pub some : 0 < length request.files.items
   pub several : request.format ≡ search_formats.Text → 2 ≤ length request.files.items
+  pub part : KeepsPart request.format
   pub switches : KeepsPreemptions request.switches
   pub limit : 1 ≤ request.limit
   pub limit_to : request.limit ≤ 1000000000
@@ -57,6 +68,10 @@ pub record KeepsSearchesBounds (request : SearchesRequest) : Type 0 where
   pub jobs : 1 ≤ request.jobs
   pub jobs_to : request.jobs ≤ 64
   pub options : KeepsBounds request.options
+
+-- one file at least
+abbrev pub KeepsJoinBounds : JoinRequest → Type 0
+KeepsJoinBounds request = 0 < length request.files.items
 
 -- one file at least, and from 1 to 1,000,000,000 states, or schedules, of each, and 1 to 1,000,000 seconds, if these
 -- are bounded, by 1 to 64 threads
@@ -81,6 +96,7 @@ MayBeAsked (requests.Step request) = KeepsBounds request.options
 MayBeAsked (requests.Run request) = KeepsRunBounds request
 MayBeAsked (requests.Search request) = KeepsSearchBounds request
 MayBeAsked (requests.Searches request) = KeepsSearchesBounds request
+MayBeAsked (requests.Join request) = KeepsJoinBounds request
 MayBeAsked (requests.Races request) = KeepsRacesBounds request
 MayBeAsked (requests.Replay request) = Unit {0}
 MayBeAsked (requests.Show request) = Unit {0}

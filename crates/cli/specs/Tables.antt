@@ -1,5 +1,5 @@
 -- What the tables of the program's arguments say.
-use Rattle.std.specs.Prelude.{◌∷◌, [], Bool, ℕ, List, Option, None, Some, false, fold, true}
+use Rattle.std.specs.Prelude.{◌∷◌, [], ℕ, List, Option, None, Some, fold}
 use Rattle.std.specs.Borrow.{Bor}
 use Rattle.clap.specs.Words.{App, Rule, Text, with_rule}
 use Rattle.clap.specs.declared.builder.value_parser.ValueParser.{ValueParser}

@@ -1,6 +1,7 @@
 -- What words ask for: the commands that the program knows, with their options, and what is read of the words.
-use Rattle.std.specs.Prelude.{◌≡◌, ◌<◌, ◌^◌, ◌⊎◌, ◌∷◌, ◌↔◌, [], ℕ, Bool, IsTrue, List, Option, None, Some, bytes_eq, codes, map, not, option_map, true, false, unwrap_or}
-use Rattle.std.specs.Prelude.{if◌then◌else◌}
+use Rattle.std.specs.Prelude.{◌≡◌, ◌==◌, ◌<◌, ◌^◌, ◌⊎◌, ◌∷◌, ◌↔◌, [], ℕ, Bool, IsTrue, List, Option, None, Some, bytes_eq, codes, length, map, not, option_map, true}
+use Rattle.std.specs.Prelude.{false, if◌then◌else◌, unwrap_or}
+use Rattle.std.specs.List.{after_first, before_first}
 use Rattle.std.specs.Str.Parse.{IsNumeral, digits_value, without_leading_plus}
 use Rattle.std.specs.Borrow.{Bor}
 use Rattle.clap.specs.Words.{App, IsAmong, Row, Rule, Text, all_of, app_of, fault_of, first_of, new_app, new_rule, one_of, rule_of}
@@ -16,6 +17,7 @@ use Rattle.cli.specs.Bounds.{MayBeAsked}
 use Rattle.cli.specs.declared.program.Names.{Names}
 use Rattle.cli.specs.declared.request.CheckRequest.{CheckRequest}
 use Rattle.cli.specs.declared.request.Choices.{Choices}
+use Rattle.cli.specs.declared.request.JoinRequest.{JoinRequest}
 use Rattle.cli.specs.declared.request.RacesFormat.{RacesFormat}
 use Rattle.cli.specs.declared.request.RacesFormat.TheVariants as race_formats
 use Rattle.cli.specs.declared.request.RacesRequest.{RacesRequest}
@@ -126,19 +128,28 @@ run_app names =
     (flag_rule (codes "stop-at-first")))
     (flag_rule (codes "keep-going"))) names
 
--- `search`, with its files, how what is found is printed, whether the settings are, how many preemptions a schedule has at most, after how many
--- schedules or states and after how many seconds a search stops, how many threads share the work, and those options;
--- what `--switches` takes is said below
+-- `search`, with its files, how what is found is printed, whether the settings are, how many preemptions a schedule has at
+-- most, which part is searched, after how many schedules or states and after how many seconds a search stops, how many
+-- threads share the work, and those options; what `--switches` and `--part` take is said below
 unfoldable pub search_app : Names → App
 search_app names =
-    with_options (with_rule (with_rule (with_rule (with_rule (with_rule (with_rule (with_rule (new_app (codes "search"))
+    with_options (with_rule (with_rule (with_rule (with_rule (with_rule (with_rule (with_rule (with_rule (new_app (codes "search"))
     (some_words_rule (codes "FILE")))
-    (name_rule (codes "format") names.search_formats (codes "text")))
+    (free_name_rule (codes "format") names.search_formats))
     (flag_rule (codes "settings")))
     (default_rule (codes "switches") (codes "2")))
+    (text_rule (codes "part")))
     (number_rule (codes "limit") 1 1000000000 (codes "1000000")))
     (free_number_rule (codes "seconds") 1 1000000))
     (number_rule (codes "jobs") 1 64 (codes "1"))) names
+
+-- `join`, with its files, whether places are wanted, whether the settings are printed, and the colours
+unfoldable pub join_app : Names → App
+join_app names = with_rule (with_rule (with_rule (with_rule (new_app (codes "join"))
+    (some_words_rule (codes "FILE")))
+    (flag_rule (codes "where")))
+    (flag_rule (codes "settings")))
+    (color_rule names)
 
 -- `races`, with its files, how races are printed, the file that a page goes to, the colours, after how many states or
 -- schedules and after how many seconds a search stops, how many threads share the files, and those settings
@@ -185,9 +196,9 @@ check_app names =
 unfoldable pub program_app : Names → App
 program_app names =
     with_subcommand (with_subcommand (with_subcommand (with_subcommand (with_subcommand (with_subcommand (with_subcommand
-    (on_top (λ shape. record shape { has_version = true; subcommand_required = true }) (new_app (codes "kcsan_litmus")))
-    (step_app names).top) (run_app names).top) (search_app names).top) (races_app names).top) (replay_app names).top)
-    show_app.top) (check_app names).top
+    (with_subcommand (on_top (λ shape. record shape { has_version = true; subcommand_required = true }) (new_app (codes "kcsan_litmus")))
+    (step_app names).top) (run_app names).top) (search_app names).top) (join_app names).top) (races_app names).top)
+    (replay_app names).top) show_app.top) (check_app names).top
 
 -- an argument goes by a rule, and is of its own command alone
 pub record IsArg (rule : Rule) (arg : Arg) : Type 0 where
@@ -264,11 +275,44 @@ search_format_of name =
     else (if bytes_eq name (codes "csv") then search_formats.Csv
     else (if bytes_eq name (codes "herd") then search_formats.Herd else search_formats.Text))
 
--- the same, by the value of an option
-pub record IsSearchFormat (values : List Row) (option : Text) (format : SearchFormat) : Type 0 where
-  pub name : Text
-  pub given : first_of option values ≡ Some name
-  pub is : format ≡ search_format_of name
+-- the same, by the value of an option: as text where it isn't given
+abbrev pub IsSearchFormat : List Row → (option : Text) → SearchFormat → Type 0
+IsSearchFormat values option format = format ≡ search_format_of (unwrap_or (first_of option values) (codes "text"))
+
+-- a text is a number of 64 bits, in decimal digits
+pub record SpellsNumber (text : Text) (number : ℕ) : Type 0 where
+  pub numeral : IsNumeral 10 (without_leading_plus text)
+  pub spelled : digits_value 10 (without_leading_plus text) ≡ number
+  pub fits : number < 2 ^ 64
+
+-- a text names a part of a search: its number, a slash, and how many parts there are
+pub record NamesPart (text : Text) (format : SearchFormat) : Type 0 where
+  pub part : ℕ
+  pub parts : ℕ
+  pub is : format ≡ search_formats.Part part parts
+  pub number : SpellsNumber (before_first (λ byte. byte == 47) text) part
+  pub count : SpellsNumber (after_first (λ byte. byte == 47) text) parts
+
+-- what a part goes with: one file, a number of `--switches`, no other format than JSON, and neither `--where` nor
+-- `--settings`
+pub record GoesWithPart (values : List Row) : Type 0 where
+  pub one : length (words_of (codes "FILE") values) ≡ 1
+  pub bounded : ¬ (first_of (codes "switches") values ≡ Some (codes "all"))
+  pub unlocated : ¬ IsGiven values (codes "where")
+  pub unsettled : ¬ IsGiven values (codes "settings")
+  pub json : unwrap_or (first_of (codes "format") values) (codes "json") ≡ codes "json"
+
+-- the values of `search` ask for this part: `--part` names it, and goes with the others
+pub record AskPart (values : List Row) (format : SearchFormat) : Type 0 where
+  pub text : Text
+  pub given : first_of (codes "part") values ≡ Some text
+  pub names : NamesPart text format
+  pub goes : GoesWithPart values
+
+-- the values of `search` ask for this format: the one that `--format` names, or, with `--part`, for a part
+abbrev pub AskFormat : List Row → SearchFormat → Type 0
+AskFormat values format =
+    ((first_of (codes "part") values ≡ None) × IsSearchFormat values (codes "format") format) ⊎ AskPart values format
 
 -- what a setting that is on or off is by the word of its option, if that is given: else it is on, or, with
 -- `--strict`, off
@@ -338,22 +382,28 @@ pub record AskSearch (values : List Row) (request : SearchRequest) : Type 0 wher
   pub limit : IsNumber values (codes "limit") request.limit
   pub seconds : IsNumberIfGiven values (codes "seconds") request.seconds
   pub jobs : IsNumber values (codes "jobs") request.jobs
-  pub format : IsSearchFormat values (codes "format") search_formats.Text
+  pub format : AskFormat values search_formats.Text
   pub settings_line : IsFlag values (codes "settings") request.settings
   pub options : AskOptions values request.options
 
--- the values of `search` ask for this of several files, or in a format for programs, and for no trace
+-- the values of `search` ask for this of several files, or in a format for programs, or of a part, and for no trace
 pub record AskSearches (values : List Row) (request : SearchesRequest) : Type 0 where
   pub files : map (λ file. file.now) request.files.items ≡ words_of (codes "FILE") values
   pub switches : AskSwitches values request.switches
   pub limit : IsNumber values (codes "limit") request.limit
   pub seconds : IsNumberIfGiven values (codes "seconds") request.seconds
   pub jobs : IsNumber values (codes "jobs") request.jobs
-  pub format : IsSearchFormat values (codes "format") request.format
+  pub format : AskFormat values request.format
   pub settings_line : IsFlag values (codes "settings") request.settings
   pub settings : AskSettings values request.options
   pub trace : first_of (codes "trace") values ≡ None
   pub untraced : request.options.trace ≡ None
+
+-- the values of `join` ask for this
+pub record AskJoin (values : List Row) (request : JoinRequest) : Type 0 where
+  pub files : map (λ file. file.now) request.files.items ≡ words_of (codes "FILE") values
+  pub located : IsFlag values (codes "where") request.located
+  pub settings_line : IsFlag values (codes "settings") request.settings
 
 -- the values of `races` ask for this
 pub record AskRaces (values : List Row) (request : RacesRequest) : Type 0 where
@@ -399,6 +449,7 @@ IsAskedBy name values (requests.Step request) = (name ≡ codes "step") × AskSt
 IsAskedBy name values (requests.Run request) = (name ≡ codes "run") × AskRun values request
 IsAskedBy name values (requests.Search request) = (name ≡ codes "search") × AskSearch values request
 IsAskedBy name values (requests.Searches request) = (name ≡ codes "search") × AskSearches values request
+IsAskedBy name values (requests.Join request) = (name ≡ codes "join") × AskJoin values request
 IsAskedBy name values (requests.Races request) = (name ≡ codes "races") × AskRaces values request
 IsAskedBy name values (requests.Replay request) = (name ≡ codes "replay") × AskReplay values request
 IsAskedBy name values (requests.Show request) = (name ≡ codes "show") × AskShow values request

@@ -7,7 +7,8 @@ pub mod request;
 pub mod version;
 
 pub use request::{
-    CheckRequest, RacesFormat, RacesRequest, ReplayRequest, Request, RunOptions, RunRequest,
-    SearchFormat, SearchRequest, SearchesRequest, ShowRequest, StepRequest, Switches, asked,
+    CheckRequest, JoinRequest, RacesFormat, RacesRequest, ReplayRequest, Request, RunOptions,
+    RunRequest, SearchFormat, SearchRequest, SearchesRequest, ShowRequest, StepRequest, Switches,
+    asked,
 };
 pub use version::version_line;

@@ -1,7 +1,7 @@
 //! The commands that the program knows, with their options.
 
 ghost use Rattle.std.specs.Prelude.{◌≡◌, IfOk, true};
-ghost use Rattle.cli.specs.Words.{AreNames, IsProgram, check_app, races_app, replay_app, run_app, search_app, show_app, step_app};
+ghost use Rattle.cli.specs.Words.{AreNames, IsProgram, check_app, join_app, races_app, replay_app, run_app, search_app, show_app, step_app};
 ghost use Rattle.cli.specs.Words.{with_options, with_settings};
 ghost use Rattle.clap.specs.Words.{App, app_of, new_app, with_subcommand};
 
@@ -23,6 +23,9 @@ pub(crate) const JOBS: (u64, u64) = (1, 64);
 
 /// The fewest and the most preemptions, where there are so many at most.
 pub(crate) const AT_MOST: (u64, u64) = (0, 64);
+
+/// Into how many parts a search is divided at most.
+pub(crate) const PARTS: u64 = 65_536;
 
 /// The fewest and the most schedules that a search may go through, or states.
 pub(crate) const LIMIT: (u64, u64) = (1, 1_000_000_000);
@@ -94,22 +97,32 @@ static RUN_ENTRIES: [Entry; 7] = [
 ];
 
 /// The files and the options of `search` alone.
-static SEARCH_ENTRIES: [Entry; 9] = [
+static SEARCH_ENTRIES: [Entry; 10] = [
     Entry::Words("FILE", Words::Several, help::FILES),
     Entry::Heading(OUTPUT),
     Entry::Value(
         "format",
         None,
         Name(NameList::SearchFormats),
-        Some("text"),
+        None,
         help::SEARCH_FORMAT,
     ),
     Entry::Flag("settings", help::SETTINGS),
     Entry::Heading(SEARCH),
     Entry::Value("switches", None, Text("N"), Some("2"), help::SWITCHES),
+    Entry::Value("part", None, Text("I/N"), None, help::PART),
     Entry::Value("limit", None, Number(LIMIT), Some("1000000"), help::LIMIT),
     Entry::Value("seconds", None, Number(SECONDS), None, help::SECONDS),
     Entry::Value("jobs", None, Number(JOBS), Some("1"), help::SEARCH_JOBS),
+];
+
+/// The files and the options of `join`.
+static JOIN_ENTRIES: [Entry; 5] = [
+    Entry::Words("FILE", Words::Several, help::PARTS),
+    Entry::Heading(OUTPUT),
+    Entry::Flag("where", help::WHERE),
+    Entry::Flag("settings", help::SETTINGS),
+    COLOR,
 ];
 
 /// The files and the options of `races` alone.
@@ -262,6 +275,7 @@ pub(crate) fn program<'a>(alloc: Global) -> Result<Command<'a>, AllocError>
     let command = with_subcommand(command, step_command(alloc, names));
     let command = with_subcommand(command, run_command(alloc, names));
     let command = with_subcommand(command, search_command(alloc, names));
+    let command = with_subcommand(command, join_command(alloc, names));
     let command = with_subcommand(command, races_command(alloc, names));
     let command = with_subcommand(command, replay_command(alloc, names));
     let command = with_subcommand(command, show_command(alloc, names));
@@ -322,6 +336,14 @@ fn search_command<'a>(alloc: Global, names: Names) -> Result<Command<'a>, AllocE
     let command = Ok(named(alloc, "search", help::SEARCH, help::AFTER_SEARCH));
     let command = with_entries(alloc, command, &SEARCH_ENTRIES, names);
     with_options(alloc, command, names)
+}
+
+/// `join`, with its files and its options.
+fn join_command<'a>(alloc: Global, names: Names) -> Result<Command<'a>, AllocError>
+    ensures { IfOk result (λ command. app_of command ≡ join_app names) }
+{
+    let command = Ok(named(alloc, "join", help::JOIN, help::AFTER_JOIN));
+    with_entries(alloc, command, &JOIN_ENTRIES, names)
 }
 
 /// `races`, with its files and its options.

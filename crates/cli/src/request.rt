@@ -1,13 +1,16 @@
 //! What the words ask for.
 
-ghost use Rattle.std.specs.Prelude.{◌≡◌, ◌↔◌, ◌≤◌, ◌<◌, ◌∷◌, ℕ, IfErr, IfOk, IfSome, IsSome, IsTrue, Option, Some, [], codes, false, length, map, true};
-ghost use Rattle.cli.specs.Bounds.{KeepsBounds, KeepsCheckBounds, KeepsPreemptions, KeepsRacesBounds, KeepsRunBounds, KeepsSearchBounds, KeepsSearchesBounds, MayBeAsked};
-ghost use Rattle.cli.specs.Words.{Ask, AskCheck, AskChoices, AskOptions, AskRaces, AskReplay, AskRun, AskSearch, AskSearches, AskSettings, AskShow, AskStep, AskSwitches};
-ghost use Rattle.cli.specs.Words.{IsAskedBy, IsAskedOf, IsFormat, IsGiven, IsLayout, IsNumber, IsNumberIfGiven, IsSearchFormat, MayBeSaid, MayFail, choice_of, words_of};
+ghost use Rattle.std.specs.Prelude.{◌≡◌, ◌↔◌, ◌⊎◌, ◌≤◌, ◌<◌, ◌∷◌, ℕ, IfErr, IfOk, IfSome, IsSome, IsTrue, Option, Some, [], codes, false, length, map, true};
+ghost use Rattle.cli.specs.Bounds.{KeepsBounds, KeepsCheckBounds, KeepsPart, KeepsPreemptions, KeepsRacesBounds, KeepsRunBounds, KeepsSearchBounds, KeepsSearchesBounds, MayBeAsked};
+ghost use Rattle.cli.specs.Words.{Ask, AskCheck, AskChoices, AskFormat, AskOptions, AskRaces, AskReplay, AskRun, AskSearch, AskSearches, AskSettings, AskShow, AskStep, AskSwitches};
+ghost use Rattle.cli.specs.Words.{GoesWithPart, IsAskedBy, IsAskedOf, IsFormat, IsGiven, IsLayout, IsNumber, IsNumberIfGiven, IsSearchFormat, MayBeSaid, MayFail};
+ghost use Rattle.cli.specs.Words.{NamesPart, SpellsNumber, choice_of, words_of};
 ghost use Rattle.clap.specs.Words.{first_of, found_of, kind_of, rows_of, subcommand_rows_of};
 ghost use Rattle.std.specs.Option.{option_map};
 
-use crate::program::{AT_MOST, DELAY, JOBS, LIMIT, RUNS, SECONDS, SKIP, SLOTS, TURNS, program};
+use crate::program::{
+    AT_MOST, DELAY, JOBS, LIMIT, PARTS, RUNS, SECONDS, SKIP, SLOTS, TURNS, program,
+};
 use clap::ArgMatches;
 use clap::error::ErrorKind;
 use std::alloc::{AllocError, Global};
@@ -25,6 +28,8 @@ pub enum Request<'a> {
     Search(SearchRequest<'a>),
     /// To do so with the programs of several litmus files, or to print what is found in a format for programs.
     Searches(SearchesRequest<'a>),
+    /// To join the parts of a search.
+    Join(JoinRequest<'a>),
     /// To say which accesses of litmus programs race, and whether KCSAN can report that.
     Races(RacesRequest<'a>),
     /// To check a trace.
@@ -129,6 +134,13 @@ pub enum SearchFormat {
     Csv,
     /// As herd7 writes its log.
     Herd,
+    /// As JSON, of one part of the search.
+    Part {
+        /// The part's number, from 1.
+        part: u64,
+        /// How many parts there are.
+        parts: u64,
+    },
 }
 
 /// What `search` is asked to do with several files, or in a format for programs.
@@ -150,6 +162,17 @@ pub struct SearchesRequest<'a> {
     pub settings: bool,
     /// What `step` could be given as well, without a trace.
     pub options: RunOptions<'a>,
+}
+
+/// What `join` is asked to do.
+#[derive(Debug, Drop)]
+pub struct JoinRequest<'a> {
+    /// The names of the files that have the parts of a search: one at least.
+    pub files: Vec<&'a str>,
+    /// Whether it is said of each access of a report where it is.
+    pub located: bool,
+    /// Whether the settings are printed.
+    pub settings: bool,
 }
 
 /// How races are printed.
@@ -296,22 +319,51 @@ fn settings_fault(values: &ArgMatches<'_>) -> &'static str {
 }
 
 /// What is said of the values of `search` where they ask for nothing: of that of `--switches`, if it asks for nothing,
-/// or else of the others.
+/// or else of that of `--part`, if it does, or else of the others.
 fn search_refused(alloc: Global, search: &ArgMatches<'_>) -> Result<clap::Error, AllocError>
     ensures { IfOk result (λ error. kind_of error ≡ ErrorKind.ValueValidation) }
 {
-    match switches_asked(search) {
-        None => switches_refused(alloc, search),
-        Some(_) => said(alloc, search_fault(search)),
+    match (switches_asked(search), search.get_str("part")) {
+        (None, _) => switches_refused(alloc, search),
+        (_, Some(text)) => part_refused(alloc, text, search),
+        (_, None) => said(alloc, search_fault(search)),
     }
 }
 
-/// What the fault is of the values of `search` but for that of `--switches` where they ask for nothing: the settings, if
-/// these do, or else `--trace`, the only other one that can be at fault.
+/// What the fault is of the values of `search` but for those of `--switches` and `--part` where they ask for nothing:
+/// the settings, if these do, or else `--trace`, the only other one that can be at fault.
 fn search_fault(search: &ArgMatches<'_>) -> &'static str {
     match settings(search, None) {
         None => settings_fault(search),
         Some(_) => "'--trace' goes with one FILE and '--format text'",
+    }
+}
+
+/// What is said of a value of `--part`, if it asks for nothing, or else of what stands beside it.
+fn part_refused(
+    alloc: Global,
+    text: &str,
+    search: &ArgMatches<'_>,
+) -> Result<clap::Error, AllocError>
+    ensures { IfOk result (λ error. kind_of error ≡ ErrorKind.ValueValidation) }
+{
+    if part_of(text).is_some() {
+        return said(alloc, part_fault(search));
+    }
+    let why = format!(in alloc;
+        "invalid value '{text}' for '--part <I/N>': not two numbers as 1/16, from 1/1 to 65536/65536"
+    )?;
+    said(alloc, why.as_str())
+}
+
+/// What the fault is where a part is named: the settings, or else what it doesn't go with.
+fn part_fault(search: &ArgMatches<'_>) -> &'static str {
+    if settings(search, None).is_none() {
+        settings_fault(search)
+    } else if search.get_str("trace").is_some() || is_output_asked(search) {
+        "'--part' cannot be used with '--trace', '--where' or '--settings'"
+    } else {
+        "'--part' goes with one FILE, a number of '--switches' and '--format json'"
     }
 }
 
@@ -357,6 +409,7 @@ fn called<'a>(
         "step" => Ok(step_request(values)),
         "run" => Ok(run_request(values)),
         "search" => search_asked(alloc, values),
+        "join" => join_asked(alloc, values),
         "races" => races_asked(alloc, values),
         "replay" => Ok(replay_request(values)),
         "show" => Ok(show_request(values)),
@@ -435,6 +488,24 @@ fn races_request<'a>(files: Vec<&'a str>, races: &ArgMatches<'a>) -> Option<Requ
     }))
 }
 
+/// What `join` is asked to do, by the values of its options.
+fn join_asked<'a>(alloc: Global, join: &ArgMatches<'a>) -> Result<Option<Request<'a>>, AllocError>
+    ensures bounds { IfOk result (λ request. IfSome request MayBeAsked) }
+    ensures asked { IfOk result (λ request. IfSome request (IsAskedBy (codes "join") (rows_of (found_of join.now)))) }
+    ensures complete { (request : Request) → MayBeAsked request
+        → IsAskedBy (codes "join") (rows_of (found_of join.now)) request → IfOk result IsSome }
+{
+    let files = words_given(alloc, join, "FILE")?;
+    if files.is_empty() {
+        return Ok(None);
+    }
+    Ok(Some(Request::Join(JoinRequest {
+        files,
+        located: join.get_flag("where"),
+        settings: join.get_flag("settings"),
+    })))
+}
+
 /// The words that are given for an argument.
 fn words_given<'a>(
     alloc: Global,
@@ -510,7 +581,7 @@ fn search_asked<'a>(
         → IsAskedBy (codes "search") (rows_of (found_of search.now)) request → IfOk result IsSome }
 {
     let files = words_given(alloc, search, "FILE")?;
-    let Some(format) = search_format_asked(search) else {
+    let Some(format) = search_format_asked(search, files.len()) else {
         return Ok(None);
     };
     match (files.as_slice(), format) {
@@ -523,7 +594,7 @@ fn search_asked<'a>(
 /// What `search` is asked to do with this file, where what it finds is printed as text, by the values of its options.
 fn search_request<'a>(file: &'a str, search: &ArgMatches<'a>) -> Option<Request<'a>>
     requires file { words_of (codes "FILE") (rows_of (found_of search.now)) ≡ file.now ∷ [] }
-    requires format { IsSearchFormat (rows_of (found_of search.now)) (codes "format") SearchFormat.Text }
+    requires format { AskFormat (rows_of (found_of search.now)) SearchFormat.Text }
     ensures bounds { IfSome result MayBeAsked }
     ensures asked { IfSome result (IsAskedBy (codes "search") (rows_of (found_of search.now))) }
     ensures complete { (request : SearchRequest) → KeepsSearchBounds request → AskSearch (rows_of (found_of search.now)) request
@@ -550,7 +621,8 @@ fn searches_request<'a>(
     requires some { 0 < length files.items }
     requires several { format ≡ SearchFormat.Text → 2 ≤ length files.items }
     requires files { map (λ file. file.now) files.items ≡ words_of (codes "FILE") (rows_of (found_of search.now)) }
-    requires format { IsSearchFormat (rows_of (found_of search.now)) (codes "format") format }
+    requires part { KeepsPart format }
+    requires format { AskFormat (rows_of (found_of search.now)) format }
     ensures bounds { IfSome result MayBeAsked }
     ensures asked { IfSome result (IsAskedBy (codes "search") (rows_of (found_of search.now))) }
     ensures complete { (request : SearchesRequest) → KeepsSearchesBounds request
@@ -754,16 +826,79 @@ fn format_asked(matches: &ArgMatches<'_>) -> Option<RacesFormat>
     })
 }
 
-/// How what a search finds is to be printed.
-fn search_format_asked(matches: &ArgMatches<'_>) -> Option<SearchFormat>
-    ensures asked { IfSome result (IsSearchFormat (rows_of (found_of matches.now)) (codes "format")) }
-    ensures complete { (format : SearchFormat) → IsSearchFormat (rows_of (found_of matches.now)) (codes "format") format
+/// How what a search of so many files finds is to be printed.
+fn search_format_asked(search: &ArgMatches<'_>, files: usize) -> Option<SearchFormat>
+    requires { files ≡ length (words_of (codes "FILE") (rows_of (found_of search.now))) }
+    ensures bounds { IfSome result KeepsPart }
+    ensures asked { IfSome result (AskFormat (rows_of (found_of search.now))) }
+    ensures complete { (format : SearchFormat) → KeepsPart format → AskFormat (rows_of (found_of search.now)) format
         → IsSome result }
 {
-    Some(match matches.get_str("format")? {
+    let Some(text) = search.get_str("part") else {
+        return Some(search_format_named(search));
+    };
+    if !goes_with_part(search, files) {
+        return None;
+    }
+    part_of(text)
+}
+
+/// How what a search finds is to be printed, by the value of `--format`.
+fn search_format_named(search: &ArgMatches<'_>) -> SearchFormat
+    ensures part { KeepsPart result }
+    ensures named { IsSearchFormat (rows_of (found_of search.now)) (codes "format") result }
+{
+    match search.get_str("format").unwrap_or("text") {
         "json" => SearchFormat::Json,
         "csv" => SearchFormat::Csv,
         "herd" => SearchFormat::Herd,
         _ => SearchFormat::Text,
-    })
+    }
+}
+
+/// Whether a part goes with what stands beside it, but for `--trace`, of so many files.
+fn goes_with_part(search: &ArgMatches<'_>, files: usize) -> bool
+    requires { files ≡ length (words_of (codes "FILE") (rows_of (found_of search.now))) }
+    ensures { IsTrue result ↔ GoesWithPart (rows_of (found_of search.now)) }
+{
+    if files != 1 || has_value(search, "switches", "all") || is_output_asked(search) {
+        return false;
+    }
+    search.get_str("format").unwrap_or("json") == "json"
+}
+
+/// Whether `--where` or `--settings` is given.
+fn is_output_asked(search: &ArgMatches<'_>) -> bool
+    ensures { IsTrue result ↔ (IsGiven (rows_of (found_of search.now)) (codes "where")
+        ⊎ IsGiven (rows_of (found_of search.now)) (codes "settings")) }
+{
+    is_given(search, "where") || is_given(search, "settings")
+}
+
+/// The part of a search that a text names, within its bounds.
+fn part_of(text: &str) -> Option<SearchFormat>
+    ensures bounds { IfSome result KeepsPart }
+    ensures asked { IfSome result (NamesPart text.now) }
+    ensures complete { (format : SearchFormat) → KeepsPart format → NamesPart text.now format → IsSome result }
+{
+    let (part, parts) = text.split_once('/')?;
+    part_within(number_of(part)?, number_of(parts)?)
+}
+
+/// A part with this number of so many parts, within its bounds.
+fn part_within(part: u64, parts: u64) -> Option<SearchFormat>
+    ensures bounds { IfSome result KeepsPart }
+    ensures is { IfSome result (λ format. format ≡ SearchFormat.Part part parts) }
+    ensures complete { KeepsPart (SearchFormat.Part part parts) → IsSome result }
+{
+    let within = 1 <= part && part <= parts && parts <= PARTS;
+    within.then_some(SearchFormat::Part { part, parts })
+}
+
+/// The number that a text is.
+fn number_of(text: &str) -> Option<u64>
+    ensures asked { IfSome result (SpellsNumber text.now) }
+    ensures complete { (number : ℕ) → SpellsNumber text.now number → result ≡ Some number }
+{
+    text.parse::<u64>().ok()
 }

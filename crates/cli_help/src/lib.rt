@@ -23,6 +23,9 @@ pub const RUN: &str = "Runs a program on threads, one a task, as often as asked"
 /// What `search` does.
 pub const SEARCH: &str = "Covers all schedules, or those with few switches between tasks";
 
+/// What `join` does.
+pub const JOIN: &str = "Joins the parts of a search, and prints what it finds";
+
 /// What `races` does.
 pub const RACES: &str = "Says which accesses race, whether KCSAN can report it, or why not";
 
@@ -179,6 +182,11 @@ pub const AFTER_SEARCH: &str = "\
     stands for the files that LIST names, one a line. --trace goes with one file\n\
     and --format text.\n\
     \n\
+    With --part I/N part I of N of the search is searched alone, and a line of JSON\n\
+    is written for 'kcsan_litmus join', which prints of all N parts what the search\n\
+    prints. That goes with one file and a number of --switches, and not with\n\
+    --trace, --where or --settings.\n\
+    \n\
     Each distinct report is printed once, in the order in which they were first\n\
     seen, with how many schedules give it, and the first of them: under it, with\n\
     the same options, so does 'kcsan_litmus step', unless it ends in a deadlock.\n\
@@ -199,6 +207,34 @@ pub const AFTER_SEARCH: &str = "\
     standard error says why, and up to 71 nothing goes to standard output or to the\n\
     trace's file, but that at 64 to 66 the output of several files is printed, or\n\
     of one with --format json or csv.";
+
+/// What it says behind those of `join`.
+pub const AFTER_JOIN: &str = "\
+    A file has what 'kcsan_litmus search --part I/N' writes of part I of N of a\n\
+    search. All parts of one search are needed, each once, in any order. What the\n\
+    search prints as text without --part is printed then, if neither it nor a part\n\
+    is stopped, at --limit or --seconds. For example\n\
+    \n\
+    \x20\x20\x20\x20kcsan_litmus search race.litmus --part 1/2 > first.part\n\
+    \x20\x20\x20\x20kcsan_litmus search race.litmus --part 2/2 > second.part\n\
+    \x20\x20\x20\x20kcsan_litmus join first.part second.part\n\
+    \n\
+    prints what 'kcsan_litmus search race.litmus' prints. The parts can be searched\n\
+    at the same time, also by other machines. They have the text of the litmus\n\
+    file, which isn't read again.\n\
+    \n\
+    Where a part was stopped, so is the search, and what is printed is of the\n\
+    schedules that were searched. Files that don't have the parts of one search are\n\
+    refused: where a part is missing or there twice, or is one of another text or\n\
+    of other settings.\n\
+    \n\
+    A file - is standard input, and @LIST stands for the files that LIST names, one\n\
+    a line.\n\
+    \n\
+    Exit status: 0 no report; 2 a report; 64 usage; 65 a file has no part, or the\n\
+    files don't have the parts of one search; 66 a file can't be read; 71 out of\n\
+    memory; 74 output can't be written; 75 no report, but a part was stopped. From\n\
+    64 to 74 standard error says why, and up to 71 nothing goes to standard output.";
 
 /// What it says behind those of `races`.
 pub const AFTER_RACES: &str = "\
@@ -318,6 +354,14 @@ pub const FILES: Help = Help {
     full: "\
         Litmus files; - is standard input, and @LIST stands for the files\n\
         that LIST names, one a line",
+};
+
+/// What `FILE..` of `join` are.
+pub const PARTS: Help = Help {
+    brief: "Files with the parts, - for standard input, or @LIST",
+    full: "\
+        The files with the parts of one search; - is standard input, and\n\
+        @LIST stands for the files that LIST names, one a line",
 };
 
 /// What `TRACE` is.
@@ -498,6 +542,14 @@ pub const SWITCHES: Help = Help {
         0 to 64, or all for no bound",
 };
 
+/// What `--part` says.
+pub const PART: Help = Help {
+    brief: "Searches part I of N alone, for 'join'",
+    full: "\
+        Searches part I of N alone, 1/1 to 65536/65536, and writes a line of\n\
+        JSON for 'join'; of one file, with a number of --switches",
+};
+
 /// What `--limit` says.
 pub const LIMIT: Help = Help {
     brief: "Nodes or states until it stops",
@@ -524,10 +576,10 @@ pub const SEARCH_JOBS: Help = Help {
 
 /// What `--format` of `search` says.
 pub const SEARCH_FORMAT: Help = Help {
-    brief: "text, json, csv or herd",
+    brief: "text, json, csv or herd [default: text]",
     full: "\
-        How what is found is printed: as text, or for programs as json, csv\n\
-        or herd",
+        How what is found is printed: as text, which is the default, or for\n\
+        programs as json, csv or herd",
 };
 
 /// What `--limit` of `races` says.

@@ -6,7 +6,7 @@ use std::env::VarError;
 use std::io::IsTerminal;
 
 /// The commands whose text is coloured.
-const COLORED: [&str; 6] = ["step", "run", "search", "races", "replay", "check"];
+const COLORED: [&str; 7] = ["step", "run", "search", "join", "races", "replay", "check"];
 
 /// The value of the last of these options among the words. Those behind `--` are no options.
 fn last_value<'a>(words: &'a [String], option: &str) -> Option<&'a str> {
@@ -30,8 +30,11 @@ fn last_value<'a>(words: &'a [String], option: &str) -> Option<&'a str> {
     last
 }
 
-/// What the words ask for is printed as text, and not in a format for programs.
+/// What the words ask for is printed as text, and not in a format for programs, as a part of a search is.
 fn are_of_text(words: &[String]) -> bool {
+    if last_value(words, "--part").is_some() {
+        return false;
+    }
     match last_value(words, "--format") {
         Some(format) => format == "text",
         None => true,

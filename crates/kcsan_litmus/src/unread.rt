@@ -16,7 +16,10 @@ pub fn is_of_reading(complaint: &Complaint) -> bool {
         Complaint::Failure(failure) | Complaint::Explained(failure, _) => {
             *failure == Failure::CannotRead
         }
-        Complaint::Usage(_) | Complaint::Overwrites(_) | Complaint::Warned(_) => false,
+        Complaint::Usage(_)
+        | Complaint::Overwrites(_)
+        | Complaint::Unjoined(_)
+        | Complaint::Warned(_) => false,
     }
 }
 

@@ -9,7 +9,7 @@ use std::alloc::AllocError;
 use std::{env, fs, io};
 
 /// The commands that take several files.
-const COMMANDS: [&str; 3] = ["search", "races", "check"];
+const COMMANDS: [&str; 4] = ["search", "join", "races", "check"];
 
 /// The commands that take the configuration of a kernel.
 const CONFIGURED: [&str; 4] = ["step", "run", "search", "races"];

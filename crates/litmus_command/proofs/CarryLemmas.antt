@@ -2,13 +2,14 @@
 use Rattle.std.proofs.Common.{◌≡◌, ◌≤◌, ◌⊎◌, ℕ, List, Option, arith, false, inl, inr, refl, subst, true}
 use Rattle.cli.specs.Bounds.{KeepsCheckBounds, KeepsRacesBounds}
 use Rattle.cli.specs.declared.request.CheckRequest.{CheckRequest}
+use Rattle.cli.specs.declared.request.JoinRequest.{JoinRequest}
 use Rattle.cli.specs.declared.request.RacesRequest.{RacesRequest}
 use Rattle.cli.specs.declared.request.SearchesRequest.{SearchesRequest}
 use Rattle.cli.specs.declared.request.Request.{Request}
 use Rattle.cli.specs.declared.request.Request.TheVariants as requests
-use Rattle.cli.specs.declared.request.Request.TheVariants.{Check, Races, Searches}
+use Rattle.cli.specs.declared.request.Request.TheVariants.{Check, Join, Races, Searches}
 use Rattle.litmus_command.proofs.EndLemmas.{check_reads, ends_otherwise, ends_unless_several, on_left, on_right}
-use Rattle.litmus_command.proofs.OverwriteLemmas.{kept_ends, kept_files, kept_otherwise, kept_reads, no_check, no_races, no_searches, same_path}
+use Rattle.litmus_command.proofs.OverwriteLemmas.{kept_ends, kept_files, kept_otherwise, kept_reads, no_check, no_joins, no_races, no_searches, same_path}
 use Rattle.litmus_command.proofs.ResultLemmas.{failures_are_known, known_above, known_below, known_so, tells_so}
 use Rattle.litmus_command.proofs.FilesEndLemmas.{files_read}
 use Rattle.litmus_command.proofs.PageEndLemmas.{all_races_end_unless_several, all_races_read}
@@ -19,6 +20,7 @@ use Rattle.litmus_command.specs.Command.{EndsAs, EndsFor, IsDone, IsStopped, Out
 use Rattle.litmus_command.specs.Ends.{Fails, IsCarriedOut, IsDoneWith, IsNoCheck, Succeeds}
 use Rattle.litmus_command.specs.Overwrite.{IsKept, Overwrites}
 use Rattle.file_commands.specs.Races.{SearchesEnd, asked_of_search}
+use Rattle.join_command.specs.Ends.{JoinEnds}
 use Rattle.page_command.specs.Ends.{AllRacesEnd}
 use Rattle.file_commands.specs.declared.failure.Failure.{Failure}
 use Rattle.file_commands.specs.declared.complaint.Complaint.{Complaint}
@@ -62,6 +64,7 @@ warns_nothing (requests.Races request) status told = refl
 warns_nothing (requests.Replay request) status told = refl
 warns_nothing (requests.Show request) status told = refl
 warns_nothing (requests.Check request) status told = inl refl
+warns_nothing (requests.Join request) status told = refl
 warns_nothing requests.Calls status told = refl
 
 -- what ends so, whatever is asked, ends so for this
@@ -93,6 +96,7 @@ carried_well request status before after plain well =
       checks = plain.checks status before after;
       races = plain.races status before after;
       searches = plain.searches status before after;
+      joins = plain.joins status before after;
       keeps = λ path over. absurd (plain.keeps path over);
       reads = inr (record { fails = λ is. absurd (no (omega (arith, is)) (omega (arith, is))); works = λ _. well.faults });
       tells = inr (
@@ -127,6 +131,7 @@ carried_failure request failure before after plain fails =
       checks = plain.checks status before _;
       races = plain.races status before _;
       searches = plain.searches status before _;
+      joins = plain.joins status before _;
       keeps = λ path over. absurd (plain.keeps path over);
       reads = inr fails.reads;
       tells = inr (before.told, warns_nothing request status before.told, tells_so failure status before.told after.told known refl fails.told);
@@ -157,6 +162,7 @@ carried_kept request path status before after over kept =
       checks = no_check request path status before after over;
       races = no_races request path status before after over kept;
       searches = no_searches request path status before after over;
+      joins = no_joins request path status before after over;
       keeps = λ other too. subst (λ (p : List ℕ). IsKept p status before after) (same_path request path other over too) kept;
       reads = inr (kept_reads path status before after kept);
       tells = inl (inr (path, over));
@@ -181,6 +187,7 @@ carried_check request status before after bounds ends =
       checks = ends;
       races = tt;
       searches = tt;
+      joins = tt;
       keeps = λ path over. absurd over;
       reads = on_right (λ shown. shown.ends.reads) alone;
       tells = on_left inl (on_right (λ shown. (shown.first, shown.warned, shown.ends.tells)) alone);
@@ -206,6 +213,7 @@ carried_races request status before after bounds none ends =
       checks = tt;
       races = inl ends;
       searches = tt;
+      joins = tt;
       keeps = λ path over. absurd (none path over);
       reads = on_right (λ shown. shown.reads) alone;
       tells = on_left inl (on_right (λ shown. (before.told, refl, shown.tells)) alone);
@@ -229,6 +237,31 @@ carried_searches request status before after ends =
       checks = tt;
       races = tt;
       searches = ends;
+      joins = tt;
+      keeps = λ path over. absurd over;
+      reads = inl tt;
+      tells = inl (inl tt);
+      ends = inl tt;
+    }
+
+-- the parts of a search were joined
+pub carried_join : (request : JoinRequest) (status : ℕ) (before after : DeskState) → JoinEnds request status before after
+    → IsCarriedOut (Join request) status before after
+carried_join request status before after ends =
+    let at : (other : ℕ) → status ≡ other → JoinEnds request other before after =
+    λ other is. subst (λ (n : ℕ). JoinEnds request n before after) is ends in
+    record {
+      reported = λ is. (before.told, after.told, before.faults, after.faults, at 2 is);
+      unreported = λ is. (before.told, after.told, before.faults, after.faults, at 0 is);
+      stopped = λ is. (before.told, after.told, before.faults, after.faults, at 75 is);
+      unwritten = λ is. (before.told, after.told, before.faults, after.faults, at 74 is);
+      refused = λ of. (before.told, after.told, before.faults, after.faults, ends);
+      misused = λ is. inr (inl (before.told, after.told, before.faults, after.faults, at 64 is));
+      unread = λ is. tt;
+      checks = tt;
+      races = tt;
+      searches = tt;
+      joins = ends;
       keeps = λ path over. absurd over;
       reads = inl tt;
       tells = inl (inl tt);

@@ -5,7 +5,7 @@ use Rattle.cli.specs.declared.request.Request.{Request}
 use Rattle.cli.specs.declared.request.Request.TheVariants as requests
 use Rattle.cli.specs.declared.request.ShowRequest.{ShowRequest}
 use Rattle.file_commands.specs.Desks.{DeskState}
-use Rattle.litmus_command.specs.Command.{AreFilesSearched, AreRaced, EndsAs, IsChecked, Reads, OutputState, state_in}
+use Rattle.litmus_command.specs.Command.{AreFilesSearched, AreJoined, AreRaced, EndsAs, IsChecked, Reads, OutputState, state_in}
 use Rattle.litmus_command.specs.Overwrite.{AreNamedPath, IsKept, Overwrites}
 
 -- it has one of two statuses
@@ -66,6 +66,7 @@ no_check (requests.Races request) path status before after over = tt
 no_check (requests.Replay request) path status before after over = tt
 no_check (requests.Show request) path status before after over = tt
 no_check (requests.Check request) path status before after over = absurd over
+no_check (requests.Join request) path status before after over = tt
 no_check requests.Calls path status before after over = tt
 
 -- what is written of a picture is to be written to the file of this path
@@ -92,6 +93,7 @@ same_path (requests.Show request) one other over too =
     let second = show_written request other too in
     cc
 same_path (requests.Check request) one other over too = absurd over
+same_path (requests.Join request) one other over too = absurd over
 same_path requests.Calls one other over too = absurd over
 
 -- with races a file may be kept
@@ -105,6 +107,7 @@ no_races (requests.Races request) path status before after over kept = inr (path
 no_races (requests.Replay request) path status before after over kept = tt
 no_races (requests.Show request) path status before after over kept = tt
 no_races (requests.Check request) path status before after over kept = tt
+no_races (requests.Join request) path status before after over kept = tt
 no_races requests.Calls path status before after over kept = tt
 
 -- no file is written with a search of several files
@@ -118,4 +121,19 @@ no_searches (requests.Races request) path status before after over = tt
 no_searches (requests.Replay request) path status before after over = tt
 no_searches (requests.Show request) path status before after over = tt
 no_searches (requests.Check request) path status before after over = tt
+no_searches (requests.Join request) path status before after over = tt
 no_searches requests.Calls path status before after over = tt
+
+-- nor where parts of a search are joined
+pub no_joins : (request : Request) (path : List ℕ) (status : ℕ) (before after : DeskState) → Overwrites request path
+    → AreJoined request status before after
+no_joins (requests.Step request) path status before after over = tt
+no_joins (requests.Run request) path status before after over = tt
+no_joins (requests.Search request) path status before after over = tt
+no_joins (requests.Searches request) path status before after over = tt
+no_joins (requests.Races request) path status before after over = tt
+no_joins (requests.Replay request) path status before after over = tt
+no_joins (requests.Show request) path status before after over = tt
+no_joins (requests.Check request) path status before after over = tt
+no_joins (requests.Join request) path status before after over = absurd over
+no_joins requests.Calls path status before after over = tt

@@ -9,6 +9,7 @@ use Rattle.clap.specs.declared.error.kind.ErrorKind.TheVariants as kinds
 use Rattle.cli.specs.Version.{version_line}
 use Rattle.cli.specs.Words.{Ask, AskForHelp, AskForVersion, MayFail}
 use Rattle.cli.specs.declared.request.CheckRequest.{CheckRequest}
+use Rattle.cli.specs.declared.request.JoinRequest.{JoinRequest}
 use Rattle.cli.specs.declared.request.RacesRequest.{RacesRequest}
 use Rattle.cli.specs.declared.request.ReplayRequest.{ReplayRequest}
 use Rattle.cli.specs.declared.request.Request.{Request}
@@ -56,6 +57,7 @@ use Rattle.litmus_command.specs.declared.show.Wanted as drawing
 use Rattle.file_commands.specs.Statuses.{complaint_status_of, engine_status_of, status_of}
 use Rattle.file_commands.specs.Statuses.{trace_status_of}
 use Rattle.file_commands.specs.declared.failure.Failure.{Failure}
+use Rattle.join_command.specs.Ends.{JoinEnds}
 use Rattle.page_command.specs.Ends.{AllRacesEnd}
 use Rattle.picture_text.specs.declared.cells.Style.TheVariants.{Ascii}
 use Rattle.file_commands.specs.StandardError.{heard}
@@ -363,6 +365,12 @@ SearchesAreEnded request status before after = (told later : Option (List Compla
     (record { written = before.written; failures = before.failures; files = before.files; told = told; faults = faults })
     (record { written = after.written; failures = after.failures; files = after.files; told = later; faults = more })
 
+-- and of the parts of a search that are joined
+abbrev pub JoinIsEnded : JoinRequest → (status : ℕ) → OutputState → OutputState → Type 0
+JoinIsEnded request status before after = (told later : Option (List Complaint)) × (faults more : ℕ) × JoinEnds request status
+    (record { written = before.written; failures = before.failures; files = before.files; told = told; faults = faults })
+    (record { written = after.written; failures = after.failures; files = after.files; told = later; faults = more })
+
 -- the calls that are read were written, and no file was touched
 pub record CallsAreGiven (before after : OutputState) : Type 0 where
   pub written : after.written ≡ appended before.written calls_text
@@ -390,6 +398,8 @@ IsDone (requests.Replay request) false before after = ReplayIsDone request befor
 IsDone (requests.Show request) raced before after = ShowIsDone request raced before after
 IsDone (requests.Check request) true before after = ⊥
 IsDone (requests.Check request) false before after = CheckIsEnded request 0 before after
+IsDone (requests.Join request) true before after = JoinIsEnded request 2 before after
+IsDone (requests.Join request) false before after = JoinIsEnded request 0 before after
 IsDone requests.Calls true before after = ⊥
 IsDone requests.Calls false before after = CallsAreGiven before after
 
@@ -403,6 +413,7 @@ IsStopped (requests.Races request) before after = RacesAreEnded request 75 befor
 IsStopped (requests.Replay request) before after = ⊥
 IsStopped (requests.Show request) before after = ⊥
 IsStopped (requests.Check request) before after = ⊥
+IsStopped (requests.Join request) before after = JoinIsEnded request 75 before after
 IsStopped requests.Calls before after = ⊥
 
 -- what is asked was done, and not all of it could be written
@@ -416,6 +427,7 @@ IsCut (requests.Races request) before after = RacesAreEnded request 74 before af
 IsCut (requests.Replay request) before after = ReplayIsCut request before after
 IsCut (requests.Show request) before after = ShowIsCut request before after
 IsCut (requests.Check request) before after = CheckIsEnded request 74 before after
+IsCut (requests.Join request) before after = JoinIsEnded request 74 before after
 IsCut requests.Calls before after = CallsAreCut before after
 
 -- what is asked was refused of the file that it is about
@@ -428,6 +440,7 @@ IsRefusedOf (requests.Races request) status before after = RacesAreEnded request
 IsRefusedOf (requests.Replay request) status before after = ReplayIsRefused request status before after
 IsRefusedOf (requests.Show request) status before after = ShowIsRefused request status before after
 IsRefusedOf (requests.Check request) status before after = CheckIsEnded request status before after
+IsRefusedOf (requests.Join request) status before after = JoinIsEnded request status before after
 IsRefusedOf requests.Calls status before after = ⊥
 
 -- the schedule or the place list that is asked for doesn't read
@@ -440,6 +453,7 @@ DoesNotRead (requests.Races request) = SpellsNoPlaces request.options.places.now
 DoesNotRead (requests.Replay request) = ⊥
 DoesNotRead (requests.Show request) = ⊥
 DoesNotRead (requests.Check request) = SpellsNoSchedule request.schedule.now ⊎ SpellsNoPlaces request.places.now
+DoesNotRead (requests.Join request) = ⊥
 DoesNotRead requests.Calls = ⊥
 
 -- Schedule or place list don't read, and no file was touched; or the file that is asked for was read, and they don't
@@ -458,10 +472,11 @@ DoesRead (requests.Races request) = (settings : Settings) × AskSettings request
 DoesRead (requests.Replay request) = Unit {0}
 DoesRead (requests.Show request) = Unit {0}
 DoesRead (requests.Check request) = (settings : Settings) × CheckAsksFor request settings
+DoesRead (requests.Join request) = Unit {0}
 DoesRead requests.Calls = Unit {0}
 
--- it is a check of several files, asks for the races of several or for a page, or for a search of several or one for
--- programs that read what is found
+-- it is a check of several files, asks for the races of several or for a page, for a search of several or one for
+-- programs that read what is found, or for parts of a search to be joined
 abbrev pub IsOfSeveral : Request → Type 0
 IsOfSeveral (requests.Step request) = ⊥
 IsOfSeveral (requests.Run request) = ⊥
@@ -471,6 +486,7 @@ IsOfSeveral (requests.Races request) = AreSeveral request ⊎ (is_some request.h
 IsOfSeveral (requests.Replay request) = ⊥
 IsOfSeveral (requests.Show request) = ⊥
 IsOfSeveral (requests.Check request) = IsSeveral request
+IsOfSeveral (requests.Join request) = Unit {0}
 IsOfSeveral requests.Calls = ⊥
 
 -- Standard error is told of what is asked in words of their own: of several files of each, and of a file that would be
@@ -488,6 +504,7 @@ IsChecked (requests.Races request) status before after = Unit {0}
 IsChecked (requests.Replay request) status before after = Unit {0}
 IsChecked (requests.Show request) status before after = Unit {0}
 IsChecked (requests.Check request) status before after = CheckEnds request status before after
+IsChecked (requests.Join request) status before after = Unit {0}
 IsChecked requests.Calls status before after = Unit {0}
 
 -- where races are asked for: how that ended, with what standard error was told of each file, or that a file was kept
@@ -502,6 +519,7 @@ AreRaced (requests.Races request) status before after =
 AreRaced (requests.Replay request) status before after = Unit {0}
 AreRaced (requests.Show request) status before after = Unit {0}
 AreRaced (requests.Check request) status before after = Unit {0}
+AreRaced (requests.Join request) status before after = Unit {0}
 AreRaced requests.Calls status before after = Unit {0}
 
 -- where a search of several files is asked for: how that ended, with what standard error was told of each file
@@ -514,7 +532,21 @@ AreFilesSearched (requests.Races request) status before after = Unit {0}
 AreFilesSearched (requests.Replay request) status before after = Unit {0}
 AreFilesSearched (requests.Show request) status before after = Unit {0}
 AreFilesSearched (requests.Check request) status before after = Unit {0}
+AreFilesSearched (requests.Join request) status before after = Unit {0}
 AreFilesSearched requests.Calls status before after = Unit {0}
+
+-- where the parts of a search are to be joined: how that ended, with what standard error was told
+abbrev pub AreJoined : Request → (status : ℕ) → DeskState → DeskState → Type 0
+AreJoined (requests.Step request) status before after = Unit {0}
+AreJoined (requests.Run request) status before after = Unit {0}
+AreJoined (requests.Search request) status before after = Unit {0}
+AreJoined (requests.Searches request) status before after = Unit {0}
+AreJoined (requests.Races request) status before after = Unit {0}
+AreJoined (requests.Replay request) status before after = Unit {0}
+AreJoined (requests.Show request) status before after = Unit {0}
+AreJoined (requests.Check request) status before after = Unit {0}
+AreJoined (requests.Join request) status before after = JoinEnds request status before after
+AreJoined requests.Calls status before after = Unit {0}
 
 -- the read of a file failed where the status is 66, and nowhere else
 pub record Reads (status : ℕ) (before after : ℕ) : Type 0 where
@@ -527,6 +559,7 @@ IsOfNoOverwrite (complaint.Usage error) = Unit {0}
 IsOfNoOverwrite (complaint.Failure error) = Unit {0}
 IsOfNoOverwrite (complaint.Explained error lines) = Unit {0}
 IsOfNoOverwrite (complaint.Overwrites lines) = ⊥
+IsOfNoOverwrite (complaint.Unjoined lines) = Unit {0}
 IsOfNoOverwrite (complaint.Warned lines) = Unit {0}
 
 -- standard error was told nothing below 64 and at 75, and from 64 to 74 one thing, which comes with this status, and
@@ -549,6 +582,7 @@ WarnsFirst (requests.Replay request) status before first = first ≡ before
 WarnsFirst (requests.Show request) status before first = first ≡ before
 WarnsFirst (requests.Check request) status before first =
     (first ≡ before) ⊎ (((status ≡ 0) ⊎ (status ≡ 74)) × ((warnings : List ℕ) × IsWarned warnings before first))
+WarnsFirst (requests.Join request) status before first = first ≡ before
 WarnsFirst requests.Calls status before first = first ≡ before
 
 -- what standard error was told of what is asked: that first, and then what comes with this status
@@ -616,6 +650,7 @@ IsWithSource (requests.Races request) = ⊥
 IsWithSource (requests.Replay request) = ⊥
 IsWithSource (requests.Show request) = is_some request.source ≡ true
 IsWithSource (requests.Check request) = ⊥
+IsWithSource (requests.Join request) = ⊥
 IsWithSource requests.Calls = ⊥
 
 -- one file was read at most; for such a picture two

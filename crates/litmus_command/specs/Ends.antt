@@ -3,7 +3,7 @@ use Rattle.std.specs.Prelude.{◌≡◌, ◌≢◌, ◌⊎◌, ℕ, List, Err, O
 use Rattle.cli.specs.declared.request.Request.{Request}
 use Rattle.file_commands.specs.Desks.{DeskState}
 use Rattle.file_commands.specs.Statuses.{status_of}
-use Rattle.litmus_command.specs.Command.{AreFilesSearched, AreRaced, DoesRead, EndsFor, IsChecked, IsCut, IsDone, IsMisused, IsOfFile, IsOfSeveral, IsRefusedOf, IsStopped}
+use Rattle.litmus_command.specs.Command.{AreFilesSearched, AreJoined, AreRaced, DoesRead, EndsFor, IsChecked, IsCut, IsDone, IsMisused, IsOfFile, IsOfSeveral, IsRefusedOf, IsStopped}
 use Rattle.litmus_command.specs.Command.{IsToldApart, IsToldWith, NothingIsWrittenFor, Reads, OutputState, state_in}
 use Rattle.litmus_command.specs.Overwrite.{IsKept, Overwrites}
 use Rattle.file_commands.specs.declared.failure.Failure.{Failure}
@@ -38,11 +38,12 @@ abbrev pub CommandEnds : Request → Result ℕ Failure → DeskState → DeskSt
 CommandEnds request (Ok status) before after = Succeeds request status before after
 CommandEnds request (Err failure) before after = Fails request (status_of failure) before after
 
--- what is asked is no check and is not of the races or the search of files, and nothing would be overwritten
+-- what is asked is no check, is not of the races or the search of files, joins no parts, and nothing would be overwritten
 pub record IsNoCheck (request : Request) : Type 0 where
   pub checks : (status : ℕ) (before after : DeskState) → IsChecked request status before after
   pub races : (status : ℕ) (before after : DeskState) → AreRaced request status before after
   pub searches : (status : ℕ) (before after : DeskState) → AreFilesSearched request status before after
+  pub joins : (status : ℕ) (before after : DeskState) → AreJoined request status before after
   pub keeps : (path : List ℕ) → Overwrites request path → ⊥
 
 -- What is asked was carried out, and this is the status: what it says of what was written and of the files, what
@@ -58,6 +59,7 @@ pub record IsCarriedOut (request : Request) (status : ℕ) (before after : DeskS
   pub checks : IsChecked request status before after
   pub races : AreRaced request status before after
   pub searches : AreFilesSearched request status before after
+  pub joins : AreJoined request status before after
   pub keeps : (path : List ℕ) → Overwrites request path → IsKept path status before after
   pub reads : IsOfSeveral request ⊎ Reads status before.faults after.faults
   pub tells : IsToldApart request ⊎ IsToldWith request status before.told after.told

@@ -37,6 +37,7 @@ Overwrites (requests.Replay request) path = ⊥
 Overwrites (requests.Show request) path = AreSamePath request.trace.now (option_map (λ svg. svg.now) request.svg) path
     ⊎ AreNamedPath (option_map (λ source. source.now) request.source) (option_map (λ svg. svg.now) request.svg) path
 Overwrites (requests.Check request) path = ⊥
+Overwrites (requests.Join request) path = ⊥
 Overwrites requests.Calls path = ⊥
 
 -- what is told of that

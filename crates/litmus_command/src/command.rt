@@ -9,7 +9,7 @@ ghost use Rattle.file_commands.specs.Check.{IsOutOfMemory};
 ghost use Rattle.file_commands.specs.Desks.{DeskState, once_told};
 ghost use Rattle.file_commands.specs.Statuses.{status_of};
 ghost use Rattle.litmus_command.specs.Command.{AskForOne, AsksFor, EndsAs, EndsFor, HelpIsCut, HelpIsGiven, IsCut, IsDone, IsGiven, IsGivenInPart};
-ghost use Rattle.litmus_command.specs.Command.{AreFilesSearched, AreRaced, IsChecked, IsOfFile, IsOfSeveral, IsRefusedOf, IsStopped, IsToldApart, IsToldWith, OfAsked};
+ghost use Rattle.litmus_command.specs.Command.{AreFilesSearched, AreJoined, AreRaced, IsChecked, IsOfFile, IsOfSeveral, IsRefusedOf, IsStopped, IsToldApart, IsToldWith, OfAsked};
 ghost use Rattle.litmus_command.specs.Command.{DoesNotRead, DoesRead, IsFault, IsMisused, Reads, StatusComplaint, UsageIsTold, VersionIsCut, VersionIsGiven};
 ghost use Rattle.litmus_command.specs.Command.{end_status_of, state_in};
 ghost use Rattle.litmus_command.specs.Command.{run_additions_of, search_additions_of, times_of, with_trace};
@@ -42,6 +42,7 @@ use file_commands::failure::{Failure, NO_REPORT, REPORTED, STOPPED, USAGE};
 use file_commands::files::carry_searches;
 use file_commands::settings::settings_for;
 use file_search::additions::Additions;
+use join_command::carry_join;
 use litmus_parse::FILE_BYTES;
 use litmus_step::Settings;
 use page_command::carry_all_races;
@@ -61,11 +62,12 @@ use trace_replay::SIZE_LIMIT;
 /// 0: no report, no race in files whose races are asked for, a trace that is accepted or drawn, files that read where
 /// they are checked, help, or the version. 2: a report, or a race in a file. 64: usage, a file that would be written
 /// over its input, a schedule that doesn't read or names a task that isn't there, or a place that doesn't read or
-/// doesn't suit. 65: the file is refused. 66: it can't be read. 70: a task is stuck. 71: out of memory, or a thread
-/// couldn't be started. 74: output can't be written. 75: a search was stopped, at its limit or after its seconds, and
-/// tells of no report or race. Of several files the greatest status counts. At 64 to 71 nothing goes to standard
-/// output, but for what is printed of several files, and no file is written but a page of files that were gone over. At
-/// 74 standard output and all files have what they had, or standard output has a beginning of what should stand there.
+/// doesn't suit. 65: the file is refused, or files don't have the parts of one search. 66: it can't be read. 70: a task
+/// is stuck. 71: out of memory, or a thread couldn't be started. 74: output can't be written. 75: a search was stopped,
+/// at its limit or after its seconds, and tells of no report or race. Of several files the greatest status counts, but
+/// of parts that of their search. At 64 to 71 nothing goes to standard output, but for what is printed of several
+/// files, and no file is written but a page of files that were gone over. At 74 standard output and all files have what
+/// they had, or standard output has a beginning of what should stand there.
 pub fn command<R: Threads + Wait + Sync, S: AsStr, D: Desk + Sync>(
     rt: &R,
     alloc: Global,
@@ -105,6 +107,11 @@ pub fn command<R: Threads + Wait + Sync, S: AsStr, D: Desk + Sync>(
     // printed, and the status follows.
     ensures searches { OfAsked (map S.text words.now) result (D.state desk.old)
         (D.state desk.new) (λ request. AreFilesSearched request result (D.state desk.old) (D.state desk.new)) }
+
+    // Where parts of a search are joined, these are a whole search, and what they give when they are joined was printed,
+    // with what is wanted beside it; or a file that has no part, or why the parts are no whole, was told.
+    ensures joins { OfAsked (map S.text words.now) result (D.state desk.old)
+        (D.state desk.new) (λ request. AreJoined request result (D.state desk.old) (D.state desk.new)) }
 
     // A file that would be written over its input is named, and nothing else is done. `misused` and `tells` say that
     // this is said of no other.
@@ -167,10 +174,11 @@ pub fn carry_out<R: Threads + Wait + Sync, D: Desk + Sync>(
             let done = show(alloc, request, desk);
             finish(alloc, done, given_source(request), desk)
         }
-        // These tell of each file that isn't read, and go on.
+        // These tell of each file that isn't read, and all but the last of them go on.
         Request::Searches(request) => carry_searches(rt, alloc, request, desk),
         Request::Races(request) => carry_all_races(rt, alloc, request, desk),
         Request::Check(request) => carry_check(alloc, request, desk),
+        Request::Join(request) => carry_join(alloc, request, desk),
         Request::Calls => {
             let done = list_calls(desk);
             finish(alloc, done, None, desk)

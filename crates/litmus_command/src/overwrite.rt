@@ -80,7 +80,11 @@ pub(crate) fn overwritten<'a>(request: &Request<'a>) -> Option<&'a str>
         Request::Search(request) => same_path(request.file, request.options.trace),
         Request::Show(request) => same_of_two(request.trace, request.source, request.svg),
         Request::Races(request) => path_of_one(request.files.as_slice(), request.html),
-        Request::Searches(_) | Request::Replay(_) | Request::Check(_) | Request::Calls => None,
+        Request::Searches(_)
+        | Request::Replay(_)
+        | Request::Check(_)
+        | Request::Join(_)
+        | Request::Calls => None,
     }
 }
 

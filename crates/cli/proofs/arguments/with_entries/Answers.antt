@@ -1,5 +1,5 @@
 -- Each entry adds to the command so far.
-use Rattle.std.proofs.Common.{◌≡◌, ◌∙◌, ap, arith, fold, subst, sym}
+use Rattle.std.proofs.Common.{◌≡◌, ◌∙◌, ap, arith, fold, subst}
 use Rattle.std.proofs.lemmas.List.{take_all}
 use Rattle.std.proofs.lemmas.List.Sums.{fold_more}
 use Rattle.std.specs.Prelude.{IfOk}

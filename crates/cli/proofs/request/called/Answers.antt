@@ -37,6 +37,16 @@ returns-in-search c =
           c.search_asked.ensures.complete request bounds (subst (λ name. IsAskedBy name rows request) c.in-search.is asks);
     }
 
+pub returns-in-join : goal.returns-in-join
+returns-in-join c =
+    let rows = rows_of (found_of c.args.values.now) in
+    record {
+      bounds = c.join_asked.ensures.bounds;
+      asked = subst (λ name. IfOk c.join_asked.result (λ request. IfSome request (IsAskedBy name rows))) (sym c.in-join.is) c.join_asked.ensures.asked;
+      complete = λ request bounds asks.
+          c.join_asked.ensures.complete request bounds (subst (λ name. IsAskedBy name rows request) c.in-join.is asks);
+    }
+
 pub returns-in-races : goal.returns-in-races
 returns-in-races c =
     let rows = rows_of (found_of c.args.values.now) in
@@ -85,5 +95,5 @@ returns-in_default c = record {
   asked = tt;
   complete = λ request bounds asks.
       absurd (asked_other c.args.name.now (rows_of (found_of c.args.values.now)) request c.in_default.not-step c.in_default.not-run
-      c.in_default.not-search c.in_default.not-races c.in_default.not-replay c.in_default.not-show c.in_default.not-check asks);
+      c.in_default.not-search c.in_default.not-join c.in_default.not-races c.in_default.not-replay c.in_default.not-show c.in_default.not-check asks);
 }

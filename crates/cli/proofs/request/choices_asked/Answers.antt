@@ -1,5 +1,5 @@
 -- each is what its option says
-use Rattle.std.proofs.Common.{◌≡◌, ◌∙◌, ap, codes, false, subst, sym}
+use Rattle.std.proofs.Common.{◌∙◌, ap, codes, false, subst, sym}
 use Rattle.std.specs.Prelude.{◌↔◌, IsTrue}
 use Rattle.clap.specs.Words.{found_of, rows_of}
 use Rattle.cli.proofs.ValueLemmas.{text_read}

@@ -12,6 +12,7 @@ returns c = record {
   bounds = record {
     some = c.requires.some;
     several = c.requires.several;
+    part = c.requires.part;
     switches = c.in_ok-switches_asked.ensures.bounds;
     limit = c.in_ok-number.ensures.within.0;
     limit_to = c.in_ok-number.ensures.within.1;

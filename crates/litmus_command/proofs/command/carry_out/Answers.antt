@@ -3,7 +3,7 @@ use Rattle.std.proofs.Common.{List, subst, sym, ℕ}
 use Rattle.cli.specs.Bounds.{MayBeAsked}
 use Rattle.cli.specs.declared.request.Request.{Request}
 use Rattle.cli.specs.declared.request.Request.TheVariants.{Calls, Races, Replay, Run, Search, Show, Step}
-use Rattle.litmus_command.proofs.CarryLemmas.{carried_check, carried_kept, carried_races, carried_searches}
+use Rattle.litmus_command.proofs.CarryLemmas.{carried_check, carried_join, carried_kept, carried_races, carried_searches}
 use Rattle.litmus_command.proofs.command.carry_out.Goals as goal
 use Rattle.file_commands.specs.Desks.{DeskState}
 use Rattle.litmus_command.specs.Ends.{IsCarriedOut, IsNoCheck}
@@ -21,6 +21,7 @@ returns-in-Step g c =
       checks = λ status first last. tt;
       races = λ status first last. tt;
       searches = λ status first last. tt;
+      joins = λ status first last. tt;
       keeps = λ path over. c.in_default.ensures.other path (subst (λ (request : Request). Overwrites request path) (sym c.in-Step.is) over);
     } in
     subst (λ (request : Request). IsCarriedOut request c.finish.result before (seen c.finish.new.desk)) (sym c.in-Step.is)
@@ -34,6 +35,7 @@ returns-in-Run g c =
       checks = λ status first last. tt;
       races = λ status first last. tt;
       searches = λ status first last. tt;
+      joins = λ status first last. tt;
       keeps = λ path over. c.in_default.ensures.other path (subst (λ (request : Request). Overwrites request path) (sym c.in-Run.is) over);
     } in
     subst (λ (request : Request). IsCarriedOut request c.finish-in-Run.result before (seen c.finish-in-Run.new.desk)) (sym c.in-Run.is)
@@ -47,6 +49,7 @@ returns-in-Search g c =
       checks = λ status first last. tt;
       races = λ status first last. tt;
       searches = λ status first last. tt;
+      joins = λ status first last. tt;
       keeps = λ path over. c.in_default.ensures.other path (subst (λ (request : Request). Overwrites request path) (sym c.in-Search.is) over);
     } in
     subst (λ (request : Request). IsCarriedOut request c.finish-in-Search.result before (seen c.finish-in-Search.new.desk)) (sym c.in-Search.is)
@@ -60,6 +63,7 @@ returns-in-Replay g c =
       checks = λ status first last. tt;
       races = λ status first last. tt;
       searches = λ status first last. tt;
+      joins = λ status first last. tt;
       keeps = λ path over. c.in_default.ensures.other path (subst (λ (request : Request). Overwrites request path) (sym c.in-Replay.is) over);
     } in
     subst (λ (request : Request). IsCarriedOut request c.finish-in-Replay.result before (seen c.finish-in-Replay.new.desk)) (sym c.in-Replay.is)
@@ -73,6 +77,7 @@ returns-in-Show g c =
       checks = λ status first last. tt;
       races = λ status first last. tt;
       searches = λ status first last. tt;
+      joins = λ status first last. tt;
       keeps = λ path over. c.in_default.ensures.other path (subst (λ (request : Request). Overwrites request path) (sym c.in-Show.is) over);
     } in
     subst (λ (request : Request). IsCarriedOut request c.finish-in-Show.result before (seen c.finish-in-Show.new.desk)) (sym c.in-Show.is)
@@ -86,6 +91,7 @@ returns-in-Calls g c =
       checks = λ status first last. tt;
       races = λ status first last. tt;
       searches = λ status first last. tt;
+      joins = λ status first last. tt;
       keeps = λ path over. c.in_default.ensures.other path (subst (λ (request : Request). Overwrites request path) (sym c.in-Calls.is) over);
     } in
     subst (λ (request : Request). IsCarriedOut request c.finish-in-Calls.result before (seen c.finish-in-Calls.new.desk)) (sym c.in-Calls.is)
@@ -112,3 +118,9 @@ returns-in-Searches g c =
     let seen = g.D.Desk.state in
     subst (λ (request : Request). IsCarriedOut request c.carry_searches.result (seen c.args.desk.now) (seen c.carry_searches.new.desk))
     (sym c.in-Searches.is) (carried_searches c.in-Searches.request c.carry_searches.result _ _ c.carry_searches.ensures)
+
+pub returns-in-Join : goal.returns-in-Join
+returns-in-Join g c =
+    let seen = g.D.Desk.state in
+    subst (λ (request : Request). IsCarriedOut request c.carry_join.result (seen c.args.desk.now) (seen c.carry_join.new.desk))
+    (sym c.in-Join.is) (carried_join c.in-Join.request c.carry_join.result _ _ c.carry_join.ensures)

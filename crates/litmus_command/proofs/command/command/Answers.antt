@@ -46,6 +46,9 @@ returns-in-Ok-clause-races g c = inl (c.in-Ok.request, c.in-Ok.ensures.bounds, c
 pub returns-in-Ok-clause-searches : goal.returns-in-Ok-clause-searches
 returns-in-Ok-clause-searches g c = inl (c.in-Ok.request, c.in-Ok.ensures.bounds, c.in-Ok.ensures.asked, c.carry_out.ensures.searches)
 
+pub returns-in-Ok-clause-joins : goal.returns-in-Ok-clause-joins
+returns-in-Ok-clause-joins g c = inl (c.in-Ok.request, c.in-Ok.ensures.bounds, c.in-Ok.ensures.asked, c.carry_out.ensures.joins)
+
 pub returns-in-Ok-clause-keeps : goal.returns-in-Ok-clause-keeps
 returns-in-Ok-clause-keeps g c = inl (c.in-Ok.request, c.in-Ok.ensures.bounds, c.in-Ok.ensures.asked, c.carry_out.ensures.keeps)
 
@@ -78,6 +81,19 @@ returns-in-Err-clause-races g c = elim c.explain.ensures.memory [
 
 pub returns-in-Err-clause-searches : goal.returns-in-Err-clause-searches
 returns-in-Err-clause-searches g c = elim c.explain.ensures.memory [
+  | inl other ↦ inr (inl (record {
+    kind = kind_of c.in-Err.error;
+    other = other;
+    may = c.in-Err.ensures.fails;
+    faults = c.explain.ensures.faults;
+    tells = c.explain.ensures.tells;
+    ends = c.explain.ensures.ends;
+  }))
+  | inr out ↦ inr (inr out)
+]
+
+pub returns-in-Err-clause-joins : goal.returns-in-Err-clause-joins
+returns-in-Err-clause-joins g c = elim c.explain.ensures.memory [
   | inl other ↦ inr (inl (record {
     kind = kind_of c.in-Err.error;
     other = other;

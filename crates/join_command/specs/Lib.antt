@@ -1,0 +1,4 @@
+pub mod Told
+pub mod Reads
+pub mod Joined
+pub mod Ends
