@@ -1,17 +1,18 @@
 -- What to write in the place of a call of the kernel or of C that isn't read.
 use Rattle.std.specs.Prelude.{◌||◌, ℕ, Bool, List, bytes_eq, codes, if◌then◌else◌}
-use Rattle.check_notes.specs.CommonNotes.{atomic_note, jump_note, number_note, wait_note}
+use Rattle.check_notes.specs.CommonNotes.{atomic_note, bit_lock_note, jump_note, number_note, wait_note}
 use Rattle.check_notes.specs.Words.{begins, is_jump}
 
 -- a call of the kernel's format that has to do with RCU
 unfoldable pub is_of_rcu : List ℕ → Bool
 is_of_rcu name = begins name (codes "rcu_") || begins name (codes "srcu_") || begins name (codes "synchronize_")
-    || bytes_eq name (codes "smp_mb__after_srcu_read_unlock")
+    || bytes_eq name (codes "smp_mb__after_srcu_read_unlock") || bytes_eq name (codes "RCU_INIT_POINTER")
 
 -- the line on a call of RCU
 unfoldable pub rcu_why : List ℕ → List ℕ
 rcu_why name =
     if begins name (codes "rcu_assign_pointer") then codes "note: write `smp_store_release(x, 1)`, of an `int`\n"
+    else if bytes_eq name (codes "RCU_INIT_POINTER") then codes "note: write `WRITE_ONCE(*x, 1)`, of an `int`\n"
     else if begins name (codes "rcu_dereference") then codes "note: write `READ_ONCE(*x)`, of an `int`\n"
     else codes "note: there is no RCU here, and nothing waits for readers: leave the call out\n"
 
@@ -64,6 +65,12 @@ unfoldable pub is_aside : List ℕ → Bool
 is_aside name = bytes_eq name (codes "cond_resched") || bytes_eq name (codes "udelay") || bytes_eq name (codes "msleep")
     || bytes_eq name (codes "printk") || begins name (codes "pr_")
 
+-- a call that wakes, orders or checks, without an effect here
+unfoldable pub is_left_out : List ℕ → Bool
+is_left_out name = begins name (codes "wake_up") || begins name (codes "lockdep_")
+    || begins name (codes "seqcount_init") || bytes_eq name (codes "schedule")
+    || bytes_eq name (codes "dma_rmb") || bytes_eq name (codes "dma_wmb")
+
 -- a call that gives a number before the program runs
 unfoldable pub is_of_number : List ℕ → Bool
 is_of_number name = bytes_eq name (codes "BIT") || bytes_eq name (codes "BIT_ULL") || bytes_eq name (codes "GENMASK")
@@ -80,24 +87,34 @@ ends_writing name = begins name (codes "write_seqcount_end") || begins name (cod
 -- a call that ends the reader's part of a sequence count
 unfoldable pub ends_reading : List ℕ → Bool
 ends_reading name = begins name (codes "read_seqretry") || begins name (codes "read_seqcount_retry")
+    || begins name (codes "__read_seqcount_retry") || begins name (codes "need_seqretry")
+
+-- a call of a sequence count whose values are read while the other copy is written
+unfoldable pub is_of_latch : List ℕ → Bool
+is_of_latch name = begins name (codes "raw_write_seqcount_latch") || begins name (codes "write_seqcount_latch")
+    || begins name (codes "raw_read_seqcount_latch") || begins name (codes "read_seqcount_latch_retry")
 
 -- a call of a sequence count
 unfoldable pub is_of_sequence : List ℕ → Bool
-is_of_sequence name = begins name (codes "read_seq") || begins name (codes "write_seq")
-    || begins name (codes "raw_read_seq") || begins name (codes "raw_write_seq")
-    || begins name (codes "write_sequnlock")
+is_of_sequence name = ends_reading name || begins name (codes "read_seq") || begins name (codes "raw_read_seq")
+    || begins name (codes "__read_seq") || begins name (codes "raw_seqcount_begin")
+    || begins name (codes "write_seq") || begins name (codes "raw_write_seq")
 
 -- the line on a call of a sequence count
 unfoldable pub sequence_why : List ℕ → List ℕ
 sequence_why name =
-    if begins_writing name then codes "note: of an `int *seq` write `kcsan_nestable_atomic_begin(); *seq += 1;`\n"
+    if is_of_latch name
+    then codes "note: a latch is an `int *seq`: the writer has `*seq += 1;` before it writes each copy; the reader begins by `s0 = READ_ONCE(*seq);` and ends by `kcsan_atomic_next(0); s1 = READ_ONCE(*seq); ok = s0 == s1;`\n"
+    else if begins name (codes "write_seqcount_invalidate") || begins name (codes "raw_write_seqcount_barrier")
+    then codes "note: of an `int *seq` write `kcsan_nestable_atomic_begin(); *seq += 2; kcsan_nestable_atomic_end();`, with `*seq += 1; *seq += 1;` for raw_write_seqcount_barrier\n"
+    else if begins_writing name then codes "note: of an `int *seq` write `kcsan_nestable_atomic_begin(); *seq += 1;`\n"
     else if ends_writing name then codes "note: of an `int *seq` write `*seq += 1; kcsan_nestable_atomic_end();`\n"
     else if begins name (codes "write_seqlock")
     then codes "note: of an `int *seq` and a lock write `spin_lock(l); kcsan_nestable_atomic_begin(); *seq += 1;`\n"
     else if begins name (codes "write_sequnlock")
     then codes "note: of an `int *seq` and a lock write `*seq += 1; kcsan_nestable_atomic_end(); spin_unlock(l);`\n"
     else if ends_reading name
-    then codes "note: of an `int *seq` write `kcsan_atomic_next(0); s1 = READ_ONCE(*seq); ok = (s0 == s1) & !(s0 & 1);`, and a retry as a `for` with `if (!ok)`\n"
+    then codes "note: of an `int *seq` write `kcsan_atomic_next(0); s1 = READ_ONCE(*seq); ok = (s0 == s1) & !(s0 & 1);`, and a retry as a `for` with `if (!ok)`; `exists` asks `1:ok=1 /\\ ..` of P1\n"
     else codes "note: of an `int *seq` write `s0 = READ_ONCE(*seq); kcsan_atomic_next(100);`\n"
 
 -- a call that gives or takes memory
@@ -112,36 +129,28 @@ function_why name =
     then codes "note: memory is neither given nor freed here: leave it out, or write to it as `WRITE_ONCE(*x, 1)` does\n"
     else codes "note: no other function is called: write its statements in its place, with its variables as parameters of the process\n"
 
--- a call that sets a bit by marked accesses
-unfoldable pub sets_bit : List ℕ → Bool
-sets_bit name = bytes_eq name (codes "set_bit") || begins name (codes "test_and_set_bit")
-
--- a call that clears a bit by marked accesses
-unfoldable pub clears_bit : List ℕ → Bool
-clears_bit name = bytes_eq name (codes "clear_bit") || bytes_eq name (codes "clear_bit_unlock")
-    || begins name (codes "test_and_clear_bit")
-
 -- a call that changes a bit by marked accesses
 unfoldable pub changes_bit : List ℕ → Bool
-changes_bit name = bytes_eq name (codes "change_bit") || begins name (codes "test_and_change_bit")
+changes_bit name = bytes_eq name (codes "set_bit") || begins name (codes "clear_bit")
+    || bytes_eq name (codes "change_bit") || begins name (codes "test_and_")
+    || bytes_eq name (codes "clear_and_wake_up_bit") || bytes_eq name (codes "assign_bit")
 
 -- a call that changes a bit by plain accesses
 unfoldable pub changes_bit_plainly : List ℕ → Bool
 changes_bit_plainly name = bytes_eq name (codes "__set_bit") || bytes_eq name (codes "__clear_bit")
-    || bytes_eq name (codes "__change_bit") || begins name (codes "__test_and_")
+    || bytes_eq name (codes "__change_bit") || bytes_eq name (codes "__assign_bit") || begins name (codes "__test_and_")
 
 -- the line on a call that has to do with a bit of a word
 unfoldable pub bit_why : List ℕ → List ℕ
 bit_why name =
-    if bytes_eq name (codes "test_bit") then codes "note: bit 1 of an `int`: write `r0 = READ_ONCE(*x) & 2;`\n"
-    else if sets_bit name
-    then codes "note: bit 1 of an `int`: `ok = 0; for (i = 0; i < 3; i++) if (!ok) { r0 = READ_ONCE(*x); r1 = cmpxchg(x, r0, r0 | 2); ok = r1 == r0; }`\n"
-    else if clears_bit name
-    then codes "note: bit 1 of an `int`: `ok = 0; for (i = 0; i < 3; i++) if (!ok) { r0 = READ_ONCE(*x); r1 = cmpxchg(x, r0, r0 & ~2); ok = r1 == r0; }`\n"
+    if begins name (codes "test_bit") then codes "note: bit 1 of an `int`: write `r0 = READ_ONCE(*x) & 2;`\n"
     else if changes_bit name
-    then codes "note: bit 1 of an `int`: `ok = 0; for (i = 0; i < 3; i++) if (!ok) { r0 = READ_ONCE(*x); r1 = cmpxchg(x, r0, r0 ^ 2); ok = r1 == r0; }`\n"
+    then codes "note: bit 1 of an `int`: `ok = 0; for (i = 0; i < 3; i++) if (!ok) { r0 = READ_ONCE(*x); r1 = cmpxchg(x, r0, r0 | 2); ok = r1 == r0; }` sets it, `r0 & ~2` there clears it, and `r0 ^ 2` changes it; then `r0 & 2` is what it was, and `ok` is 0 where each try failed\n"
     else if changes_bit_plainly name
-    then codes "note: bit 1 of an `int` by plain accesses: `r0 = *x; *x = r0 | 2;` sets it, `r0 & ~2` clears it, `r0 ^ 2` changes it\n"
+    then codes "note: bit 1 of an `int` by plain accesses: `r0 = *x; *x = r0 | 2;` sets it, `r0 & ~2` clears it, `r0 ^ 2` changes it; `r0 & 2` is what it was\n"
+    else if bytes_eq name (codes "__clear_bit_unlock")
+    then codes "note: bit 1 of an `int`: write `r0 = READ_ONCE(*x); *x = r0 & ~2;`\n"
+    else if begins name (codes "bit_spin_") then bit_lock_note
     else function_why name
 
 -- a call whose value is that of its argument
@@ -157,8 +166,10 @@ unfoldable pub made_of_others : List ℕ → List ℕ
 made_of_others name =
     if is_of_sequence name then sequence_why name
     else if begins name (codes "smp_cond_load_")
-    then codes "note: a wait has a number of tries: `ok = 0; for (i = 0; i < 3; i++) if (!ok) { r0 = smp_load_acquire(x); ok = r0 == 1; }` waits for 1, and `if (ok) { .. }` stands round what follows\n"
+    then codes "note: a wait has a number of tries: `ok = 0; for (i = 0; i < 3; i++) if (!ok) { r0 = smp_load_acquire(x); ok = r0 == 1; }` waits for 1; `if (ok) { .. }` stands round what follows, and `exists` asks `1:ok=1 /\\ ..` of P1\n"
     else if begins name (codes "wait_") then wait_note
+    else if bytes_eq name (codes "complete") || bytes_eq name (codes "complete_all")
+    then codes "note: a completion is an `int *done`: write `smp_store_release(done, 1);`, and what waits for it as a wait for 1\n"
     else if asserts name then codes "note: what may come is asked by the condition, as `exists (1:r0=1)`\n"
     else if is_transparent name then codes "note: write what its parentheses have\n"
     else if bytes_eq name (codes "switch") then codes "note: write `if` and `else`\n"
@@ -225,7 +236,8 @@ call_why name =
     else if has_order name then codes "note: write `xchg(x, 1)` or `cmpxchg(x, 0, 1)`, with no order in the name\n"
     else if begins name (codes "try_cmpxchg")
     then codes "note: write `r1 = cmpxchg(x, r0, 2);`, which wrote 2 if `r1` is `r0`\n"
-    else if has_no_effect name || is_aside name then codes "note: it changes nothing here: leave it out\n"
+    else if has_no_effect name || is_aside name || is_left_out name
+    then codes "note: it changes nothing here: leave it out\n"
     else if bytes_eq name (codes "smp_store_mb") then codes "note: write `WRITE_ONCE(*x, 1); smp_mb();`\n"
     else if is_of_number name then number_note
     else if is_jump name then jump_note

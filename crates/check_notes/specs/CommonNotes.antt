@@ -11,7 +11,7 @@ number_note = codes "note: write the number itself, as 0x1\n"
 
 -- a variable without `*` and `&`
 unfoldable pub name_note : List ℕ
-name_note = codes "note: write the name alone, as in `spin_lock(l)`\n"
+name_note = codes "note: write the name alone, as in `spin_lock(l)`, and `p_f` for a field `&p->f`; for `**p` write `r0 = *p; if (r0) r1 = *b;`\n"
 
 -- a variable behind `*`
 unfoldable pub star_note : List ℕ
@@ -20,12 +20,12 @@ star_note = codes "note: `*` stands before the variable, as in `int *x` and `REA
 -- a wait ends
 unfoldable pub wait_note : List ℕ
 wait_note =
-    codes "note: a wait has a number of tries: `ok = 0; for (i = 0; i < 3; i++) if (!ok) { r0 = READ_ONCE(*x); ok = r0 == 1; }` waits for 1, with `ok = (r0 & 1) == 0;` for bit 0 to be 0; `if (ok) { .. }` stands round what follows\n"
+    codes "note: a wait has a number of tries: `ok = 0; for (i = 0; i < 3; i++) if (!ok) { r0 = READ_ONCE(*x); ok = r0 == 1; }` waits for 1, with `ok = (r0 & 1) == 0;` for bit 0 to be 0; `if (ok) { .. }` stands round what follows, and `exists` asks `1:ok=1 /\\ ..` of P1\n"
 
 -- a loop ends
 unfoldable pub turns_note : List ℕ
 turns_note =
-    codes "note: a loop has a number of turns: `ok = 0; for (i = 0; i < 3; i++) if (!ok) { r0 = *x; ok = r0 == 1; }` ends once `r0` is 1, and `if (ok) { .. }` stands round what follows\n"
+    codes "note: a loop has a number of turns: `ok = 0; for (i = 0; i < 3; i++) if (!ok) { r0 = *x; ok = r0 == 1; }` ends once `r0` is 1; `if (ok) { .. }` stands round what follows, and `exists` asks `1:ok=1 /\\ ..` of P1\n"
 
 -- that `~` is what says that something isn't so
 unfoldable pub tilde_note : List ℕ
@@ -38,11 +38,16 @@ structure_note =
 
 -- a field has no name of its own here
 unfoldable pub field_note : List ℕ
-field_note = codes "note: a field is a variable of its own: for `p->f` write `*p_f`, of an `int *p_f`\n"
+field_note = codes "note: a field is a variable of its own: for `p->f` write `*p_f`, and for `&p->f` `p_f`, of an `int *p_f`; where `p` was loaded, with 1 for `&b`, write `if (p == 1) r0 = *b_f;`\n"
 
 -- an element has no name of its own here
 unfoldable pub element_note : List ℕ
 element_note = codes "note: there are no arrays: each element is a variable of its own, as `*x0` of an `int *x0`\n"
+
+-- a lock that is one bit of a word
+unfoldable pub bit_lock_note : List ℕ
+bit_lock_note =
+    codes "note: a lock in bit 0 of an `int`: `ok = 0; for (i = 0; i < 3; i++) if (!ok) { r0 = READ_ONCE(*x); r1 = cmpxchg(x, r0, r0 | 1); ok = (r1 == r0) & !(r0 & 1); }` takes it where `ok` is 1, with `if (ok) { .. }` round what follows; the same with `r0 & ~1` and `ok = r1 == r0;` gives it back, and `READ_ONCE(*x) & 1` asks for it\n"
 
 -- a pointer is a number
 unfoldable pub pointer_note : List ℕ
@@ -70,9 +75,9 @@ compared_note =
 unfoldable pub sequence_note : List ℕ
 sequence_note = codes "note: a sequence count is an `int *seq`; a sequence lock is one and a `spinlock_t *l`\n"
 
--- a word that changes nothing here
+-- words that change nothing here
 unfoldable pub const_note : List ℕ
-const_note = codes "note: leave out `const`\n"
+const_note = codes "note: leave out `const`, `static` and `__rcu`\n"
 
 -- how one is added
 unfoldable pub increase_note : List ℕ

@@ -1,9 +1,9 @@
 -- The last line of a message: what to write in the place of what C or the kernel's format have, or why it isn't read.
-use Rattle.std.specs.Prelude.{◌&&◌, ◌||◌, ℕ, Bool, List, [], ◌∷◌, bytes_eq, codes, false, if◌then◌else◌, true}
+use Rattle.std.specs.Prelude.{◌&&◌, ◌||◌, ◌==◌, ℕ, Bool, List, [], ◌∷◌, bytes_eq, codes, false, if◌then◌else◌, length, not, true}
 use Rattle.check_notes.specs.CallNotes.{call_why}
-use Rattle.check_notes.specs.CommonNotes.{block_note, field_note, name_note, pointer_note, star_note, turns_note, value_note, wait_note}
+use Rattle.check_notes.specs.CommonNotes.{bit_lock_note, block_note, name_note, pointer_note, star_note, turns_note, value_note, wait_note}
 use Rattle.check_notes.specs.SyntaxNotes.{behind_token, fault_note, is_part, part_note}
-use Rattle.check_notes.specs.Words.{begins}
+use Rattle.check_notes.specs.Words.{begins, is_constant}
 use Rattle.litmus_lex.specs.declared.reason.Expected.{Expected}
 use Rattle.litmus_lex.specs.declared.reason.Expected.TheVariants as places
 use Rattle.litmus_lex.specs.declared.reason.Unread.{Unread}
@@ -16,10 +16,11 @@ unfoldable pub section_why : List ℕ → List ℕ
 section_why name =
     if begins name (codes "locations") then codes "note: it changes nothing here: leave it out\n" else codes "note: no run is left out here: leave it out\n"
 
--- a loop that waits, or that has a turn before it asks whether it ends
-unfoldable pub loop_why : List ℕ → List ℕ
-loop_why word =
-    if bytes_eq word (codes "while") then wait_note
+-- a loop that waits, as for a bit that it sets, or that has a turn before it asks whether it ends
+unfoldable pub loop_why : (word rest : List ℕ) → List ℕ
+loop_why word rest =
+    if begins rest (codes "while (test_and_set_bit") || begins rest (codes "while(test_and_set_bit") then bit_lock_note
+    else if bytes_eq word (codes "while") then wait_note
     else if bytes_eq word (codes "do") then turns_note
     else []
 
@@ -40,7 +41,7 @@ unfoldable pub structure_why : List ℕ → List ℕ
 structure_why rest =
     if begins rest (codes "struct mutex")
     then codes "note: a mutex is a `spinlock_t`, with `spin_lock` and `spin_unlock`\n"
-    else field_note
+    else codes "note: each field is a variable of its own, as `int *m_f` for `m->f`; a pointer is a number, 1 for `&m` and 0 for NULL: `int *p` for a parameter `struct msg **p`, and `int p` as an item or a register\n"
 
 -- a word of C
 unfoldable pub word_why : List ℕ → List ℕ → List ℕ
@@ -62,11 +63,11 @@ division_why sign =
 -- an operator of C
 unfoldable pub operator_why : List ℕ → List ℕ
 operator_why sign =
-    if bytes_eq sign (codes "&&") then codes "note: comparisons are joined by `&`, as `(r0 == 1) & (r1 == 2)`\n"
-    else if bytes_eq sign (codes "||") then codes "note: comparisons are joined by `|`, as `(r0 == 1) | (r1 == 2)`\n"
+    if bytes_eq sign (codes "&&") then codes "note: comparisons are joined by `&`, as `(r0 == 1) & (r1 == 2)`; where the right side loads, write `ok = r0 == 1; if (ok) ok = *y == 2; if (ok) ..`\n"
+    else if bytes_eq sign (codes "||") then codes "note: comparisons are joined by `|`, as `(r0 == 1) | (r1 == 2)`; where the right side loads, write `ok = r0 == 1; if (!ok) ok = *y == 2; if (ok) ..`\n"
     else if bytes_eq sign (codes "?") then codes "note: write `if (r0) r1 = 1; else r1 = 2;`\n"
     else if bytes_eq sign (codes "<<") then codes "note: write `r0 * 4` for `r0 << 2`, and the number itself for `1 << 2`\n"
-    else if bytes_eq sign (codes ">>") then codes "note: a bit is tested by `r0 & 4`\n"
+    else if bytes_eq sign (codes ">>") then codes "note: a bit is tested by `r0 & 4`, and `(r0 >> 2) & 1` is `(r0 & 4) != 0`; of a register from 0 to 7, as `r0 = *x;` loads, `r0 >> 2` is `r0 >= 4`\n"
     else division_why sign
 
 -- an address where this is expected
@@ -89,31 +90,48 @@ type_why places.LockVariable =
 type_why places.MemoryVariable = codes "note: a lock has no bytes: write a variable of another type\n"
 type_why expected = []
 
--- a pointer that is made behind this word, or where an item begins
-unfoldable pub pointer_why : List ℕ → List ℕ
-pointer_why [] = block_note
-pointer_why (first ∷ others) =
-    codes "note: a variable is `int x` as an item and `int *x` as a parameter; a register is `int r0`, and a pointer in it a number\n"
+-- a parameter ends behind the name that these bytes have: of `,` (44), `)` (41), `=` (61) and `;` (59) one of the first
+-- two comes first
+abbrev pub ends_parameter : List ℕ → Bool
+ends_parameter [] = false
+ends_parameter (byte ∷ bytes) =
+    if byte == 44 || byte == 41 then true
+    else if byte == 61 || byte == 59 then false
+    else ends_parameter bytes
+
+-- a pointer that is made behind this word or behind a sign, by a `*` that these bytes begin with
+unfoldable pub variable_pointer_why : (before rest : List ℕ) → List ℕ
+variable_pointer_why before rest =
+    if not (length before == 0)
+    then codes "note: an item is `int x`, with no `*`: a pointer is a number, 1 for `&b` and 0 for NULL\n"
+    else if ends_parameter rest
+    then codes "note: a pointer is a number, 1 for `&b` and 0 for NULL: write `int *p` for `int **p`\n"
+    else block_note
+
+-- a pointer that is made where this is expected
+unfoldable pub pointer_why : Expected → (before rest : List ℕ) → List ℕ
+pointer_why places.Register before rest = codes "note: a register is `int r0`, and a pointer in it a number, 1 for `&b` and 0 for NULL\n"
+pointer_why expected before rest = variable_pointer_why before rest
 
 -- a name as an initial value, which these bytes follow
-unfoldable pub name_why : List ℕ → List ℕ
-name_why behind =
-    if begins behind (codes "(") then block_note
+unfoldable pub name_why : (name behind : List ℕ) → List ℕ
+name_why name behind =
+    if begins behind (codes "(") && not (is_constant name) && not (begins name (codes "sizeof")) then block_note
     else value_note
 
 -- the line that says why this isn't read, where the kernel's format or C has it
 unfoldable pub why : Unread → Expected → (token before rest : List ℕ) → List ℕ
 why unreads.Call expected token before rest = call_why token
 why unreads.Section expected token before rest = section_why token
-why unreads.Loop expected token before rest = loop_why token
+why unreads.Loop expected token before rest = loop_why token rest
 why unreads.Type expected token before rest = word_why token rest
 why unreads.Operator expected token before rest = operator_why token
 why unreads.Address expected token before rest = address_why expected
 why unreads.Load expected token before rest = codes "note: load into a register first, as `r0 = *x;`\n"
 why unreads.OtherType expected token before rest = type_why expected
-why unreads.Pointer expected token before rest = pointer_why before
+why unreads.Pointer expected token before rest = pointer_why expected before rest
 why unreads.Label expected token before rest = codes "note: a process gives it a value, as `r0 = 1;`\n"
-why unreads.Name expected token before rest = name_why (behind_token token rest)
+why unreads.Name expected token before rest = name_why token (behind_token token rest)
 why unreads.LockValue expected token before rest = codes "note: an item `spinlock_t l` has no value, and the condition no lock\n"
 why unreads.Counter expected token before rest =
     codes "note: the loop alone changes the register that it counts with: assign another one, and to end sooner write `ok = 1;` and `if (!ok) { .. }` in the loop\n"

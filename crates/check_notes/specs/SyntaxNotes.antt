@@ -1,8 +1,8 @@
 -- What to write in the place of a token that isn't of this format.
-use Rattle.std.specs.Prelude.{◌||◌, ℕ, Bool, List, [], ◌∷◌, bytes_eq, codes, drop, if◌then◌else◌, length}
+use Rattle.std.specs.Prelude.{◌&&◌, ◌||◌, ℕ, Bool, List, [], ◌∷◌, bytes_eq, codes, drop, if◌then◌else◌, length, not}
 use Rattle.check_notes.specs.CommonNotes.{bare_note, block_note, compared_note, const_note, element_note, field_note, implied_note, increase_note, join_note, jump_note, name_note, number_note, sequence_note}
-use Rattle.check_notes.specs.CommonNotes.{star_note, structure_note, tilde_note, value_note}
-use Rattle.check_notes.specs.Words.{begins, has_eight_bytes, has_four_bytes, has_one_byte, has_two_bytes, is_atomic_type, is_jump, is_lock_type, is_number, is_operator, is_sequence_type, is_suffix, is_type}
+use Rattle.check_notes.specs.CommonNotes.{star_note, structure_note, tilde_note}
+use Rattle.check_notes.specs.Words.{begins, has_eight_bytes, has_four_bytes, has_one_byte, has_two_bytes, is_atomic_type, is_constant, is_jump, is_lock_type, is_number, is_operator, is_qualifier, is_sequence_type, is_suffix, is_type}
 use Rattle.litmus_lex.specs.declared.reason.Expected.{Expected}
 use Rattle.litmus_lex.specs.declared.reason.Expected.TheVariants as places
 use Rattle.litmus_lex.specs.declared.reason.Fault.{Fault}
@@ -14,7 +14,7 @@ use Rattle.litmus_lex.specs.declared.sign.Sign.TheVariants as signs
 unfoldable pub behind_token : (token rest : List ℕ) → List ℕ
 behind_token token rest = drop (length token) rest
 
--- which type is read in the place of one of these
+-- which type is read in the place of one of these, or how a parameter is written
 unfoldable pub type_note : List ℕ → List ℕ
 type_note word =
     if has_one_byte word then codes "note: the type of 1 byte is `char`, with a sign\n"
@@ -24,7 +24,7 @@ type_note word =
     else if is_lock_type word then codes "note: a lock is a `spinlock_t`\n"
     else if is_sequence_type word then sequence_note
     else if is_atomic_type word then codes "note: an atomic variable is an `atomic_t`, of 4 bytes\n"
-    else []
+    else codes "note: a parameter is a type and a name behind `*`, as `int *x`, and a structure one for each field, as `int *m_f`\n"
 
 -- a word or an operator that joins conditions in C
 unfoldable pub joins : List ℕ → Bool
@@ -48,6 +48,8 @@ behind_number token rest =
     else if is_operator token then number_note
     else if is_suffix token then codes "note: a number has no suffix\n"
     else if bytes_eq token (codes ",") then codes "note: `;` stands between, as in `int x = 1; int y = 2;`\n"
+    else if bytes_eq token (codes ":")
+    then codes "note: a register is compared with a number alone: for two of P0 write `eq = r0 == r1;` there and `0:eq=1` here; for those of two processes write each case, as `0:r0=1 /\\ 1:r0=1`\n"
     else if begins token (codes "b")
     then codes "note: a number is decimal, or hexadecimal behind 0x: for 0b11 write 3\n"
     else []
@@ -55,11 +57,14 @@ behind_number token rest =
 -- behind a register: its assignment, its value in the condition, or a label
 unfoldable pub register_note : List ℕ → List ℕ → List ℕ
 register_note token rest =
-    if bytes_eq token (codes ":") then jump_note
+    if bytes_eq token (codes ":")
+    then codes "note: no label is read: leave it out; what `goto` would repeat is a loop, as `ok = 0; for (i = 0; i < 3; i++) if (!ok) { r0 = *x; ok = r0 == 1; }`, with `if (ok) { .. }` round what follows\n"
+    else if bytes_eq token (codes "*") && not (begins rest (codes "*="))
+    then codes "note: a register is declared as `int r0`, also for a pointer, which is a number\n"
     else if begins rest (codes "->") then field_note
     else if bytes_eq token (codes "-") then codes "note: write `r0 = r0 - 1`\n"
     else if is_operator token || bytes_eq token (codes "+=")
-    then codes "note: a register is assigned by `=` alone, as `r0 = r0 | 1`; in the condition `=` alone compares\n"
+    then codes "note: a register is assigned by `=` alone, as `r0 = r0 | 1;`; the condition computes nothing: it has `0:r1=2` for `r1 = r0 & 2;` in P0, and `x=1` for `x + 1 = 2`\n"
     else if bytes_eq token (codes "==") then codes "note: it is one `=`, as `exists (0:r0=1)`\n"
     else if bytes_eq token (codes "!=") then tilde_note
     else if compares token then compared_note
@@ -72,7 +77,7 @@ statement_note token rest =
     else if bytes_eq token (codes "-") then codes "note: for `-=` and `--` write `*x += -1`\n"
     else if bytes_eq token (codes ",") then codes "note: a declaration gives one value: `int r0 = 1; int r1 = 2;`\n"
     else if is_operator token
-    then codes "note: with an operator there is `+=` alone, which is one access as `|=` is; `r0 = *x | 1; *x = r0;` is two\n"
+    then codes "note: with an operator there is `+=` alone, which is one access as `|=` is; `r0 = *x | 4; *x = r0;` is two, as are `r0 = *x & ~4; *x = r0;` and the same with `^` and `*`\n"
     else []
 
 -- behind `(*x)`
@@ -86,6 +91,7 @@ increment_note token rest =
 unfoldable pub unstarred_note : List ℕ → List ℕ
 unstarred_note token =
     if bytes_eq token (codes "void") then codes "note: a load is a statement without a cast\n"
+    else if is_qualifier token then const_note
     else star_note
 
 -- behind the condition, or a part of it
@@ -129,6 +135,8 @@ sign_note sign token before rest = []
 unfoldable pub starred_note : List ℕ → List ℕ
 starred_note token =
     if bytes_eq token (codes "*") then name_note
+    else if bytes_eq token (codes "(") || bytes_eq token (codes "READ_ONCE")
+    then codes "note: a name alone stands behind `*`: write `*x` for `*(int *)x`, or with `volatile` `READ_ONCE(*x)` and `WRITE_ONCE(*x, 1)`; a variable of its own for `*(x + 1)`; and `r0 = READ_ONCE(*p); if (r0) r1 = *b;` for `*READ_ONCE(*p)`\n"
     else if is_number token
     then codes "note: the variable comes first, as in `atomic_set(f, 1)` and `xchg(x, 1)`, and last in `atomic_add(1, f)`\n"
     else []
@@ -136,8 +144,8 @@ starred_note token =
 -- in the place of the type of a parameter
 unfoldable pub parameter_note : List ℕ → List ℕ
 parameter_note token =
-    if bytes_eq token (codes "const") then const_note
-    else if bytes_eq token (codes "void") then codes "note: a process without variables begins with `P0()`\n"
+    if is_qualifier token then const_note
+    else if bytes_eq token (codes "void") then codes "note: a process without variables begins with `P0()`, and a `void *x` is an `int *x`\n"
     else type_note token
 
 -- a word that C has before a function
@@ -192,13 +200,16 @@ expression_note token =
     else if is_read_type token then codes "note: no cast is read: leave it out\n"
     else []
 
--- behind an item
-unfoldable pub item_end_note : List ℕ → List ℕ
-item_end_note token =
-    if bytes_eq token (codes ",") then codes "note: each variable is an item of its own, as `int x; int y;`\n"
+-- behind an item, or behind this word that is taken for one
+unfoldable pub item_end_note : (token before : List ℕ) → List ℕ
+item_end_note token before =
+    if bytes_eq token (codes "(") && is_constant before
+    then codes "note: an item is a type and a name: `spinlock_t l;` for a lock, `int seq;` for a sequence count, both for a seqlock, and `int f;` for bits\n"
+    else if bytes_eq token (codes "(") then block_note
+    else if bytes_eq token (codes ",") then codes "note: each variable is an item of its own, as `int x; int y;`\n"
     else if bytes_eq token (codes ":")
     then codes "note: bits of a word have no names: to set bit 1 of an `int *x`, as C does it, is `r0 = *x; *x = r0 | 2;`, and `*x & 2` reads it\n"
-    else []
+    else codes "note: this is the initialization block, from the first `{`: an item is `int x;` or `int x = 1;`; leave out one of another type than char, short, int, long, atomic_t and spinlock_t, or write it as an `int`\n"
 
 -- in the place of an item
 unfoldable pub item_note : List ℕ → List ℕ
@@ -210,6 +221,7 @@ item_note token =
 unfoldable pub initial_note : List ℕ → List ℕ
 initial_note token =
     if bytes_eq token (codes "*") then block_note
+    else if bytes_eq token (codes "(") then number_note
     else []
 
 -- in the place of a statement
@@ -220,10 +232,12 @@ statement_place_note token =
 
 -- what to write where this is expected
 unfoldable pub place_note : Expected → (token before rest : List ℕ) → List ℕ
-place_note places.Number token before rest = value_note
+place_note places.Number token before rest =
+    codes "note: write the number itself, as 0x1, and 1 for a pointer `&b` and 0 for NULL; two values are compared in a process, as `r2 = r0 == r1;`\n"
 place_note places.Type token before rest = parameter_note token
 place_note places.Expression token before rest = expression_note token
-place_note places.ItemEnd token before rest = item_end_note token
+place_note places.ItemEnd token before rest = item_end_note token before
+place_note places.ParameterEnd token before rest = codes "note: `,` stands between two parameters, as `int *x, int *y`\n"
 place_note places.Variable token before rest = item_note token
 place_note places.Value token before rest = initial_note token
 place_note places.Statement token before rest = statement_place_note token
@@ -249,10 +263,14 @@ is_truth token = bytes_eq token (codes "true") || bytes_eq token (codes "false")
 -- behind this number; the text goes on with these bytes from the token on
 unfoldable pub token_note : Expected → (token before rest : List ℕ) → List ℕ
 token_note expected token before rest =
-    if is_jump before then jump_note
+    if bytes_eq before (codes "break")
+    then codes "note: no jump is read: a loop ends sooner as `ok = 0; for (i = 0; i < 3; i++) if (!ok) { r0 = *x; ok = r0 == 1; }`, with `if (!ok) { .. }` round what else a turn has\n"
+    else if is_jump before then jump_note
     else if is_type before then type_note before
     else if is_number before then behind_number token rest
-    else if bytes_eq before (codes "const") then const_note
+    else if is_qualifier before then const_note
+    else if bytes_eq before (codes "enum") || bytes_eq before (codes "union")
+    then codes "note: write a constant of an `enum` as its number, and a field of a `union` as a variable, and leave this out\n"
     else if bytes_eq token (codes "++") then increase_note
     else if is_truth token then codes "note: write 1 for `true`, and 0 for `false`\n"
     else if bytes_eq token (codes "[") then element_note
@@ -269,18 +287,27 @@ unknown_note expected token =
 -- in the place of a sign that begins no token
 unfoldable pub stray_note : (token rest : List ℕ) → List ℕ
 stray_note token rest =
-    if begins rest (codes "#include") then codes "note: no file is included: leave the line out\n"
+    if begins rest (codes "#include") || begins rest (codes "# include")
+    then codes "note: no file is included: leave the line out\n"
     else if bytes_eq token (codes "#") then codes "note: no macro is read: write in its place what it stands for\n"
     else if bytes_eq token (codes ".") then field_note
+    else if bytes_eq token (codes "'") then codes "note: a character is a number: write 97 for `'a'`\n"
     else []
 
--- in the place of a variable of the process, which these bytes follow
-unfoldable pub variable_note : List ℕ → List ℕ
-variable_note behind =
-    if begins behind (codes "++") then increase_note
+-- a variable of the process, where it is neither written nor read
+unfoldable pub unaccessed_note : Expected → List ℕ
+unaccessed_note places.Statement = codes "note: its memory is written as `*x`, or by a call, as `WRITE_ONCE(*x, 1)`; a register has another name\n"
+unaccessed_note expected = codes "note: its value is read as `r0 = *x;` or `r0 = READ_ONCE(*x);`, and its address is a number, as 1 for `&x`\n"
+
+-- in the place of a variable of the process, behind this word and before these bytes
+unfoldable pub variable_note : Expected → (before behind : List ℕ) → List ℕ
+variable_note expected before behind =
+    if is_read_type before
+    then codes "note: a parameter has this name: give the register another one\n"
+    else if begins behind (codes "++") then increase_note
     else if begins behind (codes ",")
-    then codes "note: a value is a number or a register, as `r0 = *x;` gives; `atomic_add(1, f)` has the variable last\n"
-    else codes "note: its memory is read and written as `*x`, or by a call, as `WRITE_ONCE(*x, 1)`\n"
+    then codes "note: a value is a number or a register, as `r0 = *x;` gives, and an address a number, as 1 for `&x`; `atomic_add(1, f)` has the variable last\n"
+    else unaccessed_note expected
 
 -- in the place of a comment that goes on to the end
 unfoldable pub comment_note : Expected → List ℕ
@@ -290,7 +317,8 @@ comment_note expected = []
 -- what to write where a text has this fault
 unfoldable pub fault_note : Fault → Expected → (token before rest : List ℕ) → List ℕ
 fault_note faults.Token expected token before rest = token_note expected token before rest
-fault_note faults.Variable expected token before rest = variable_note (behind_token token rest)
+fault_note faults.Variable expected token before rest = variable_note expected before (behind_token token rest)
+fault_note faults.Twice expected token before rest = codes "note: leave it out: the process has this parameter\n"
 fault_note faults.Unknown expected token before rest = unknown_note expected token
 fault_note faults.Stray expected token before rest = stray_note token rest
 fault_note faults.Unclosed expected token before rest = comment_note expected

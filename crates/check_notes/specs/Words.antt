@@ -1,6 +1,6 @@
 -- Words and signs of C and of the kernel that a text of this format doesn't have.
-use Rattle.std.specs.Prelude.{◌||◌, ℕ, Bool, List, [], ◌∷◌, bytes_eq, codes, false, nat_eq}
-use Rattle.std.specs.Char.{is_ascii_digit}
+use Rattle.std.specs.Prelude.{◌&&◌, ◌||◌, ℕ, Bool, List, [], ◌∷◌, bytes_eq, codes, false, nat_eq, not}
+use Rattle.std.specs.Char.{is_ascii_digit, is_ascii_uppercase}
 use Rattle.std.specs.List.{starts_with}
 
 -- a name begins so
@@ -31,6 +31,7 @@ has_four_bytes word = bytes_eq word (codes "u32") || bytes_eq word (codes "s32")
 unfoldable pub has_eight_bytes : List ℕ → Bool
 has_eight_bytes word = bytes_eq word (codes "u64") || bytes_eq word (codes "s64") || bytes_eq word (codes "uint64_t")
     || bytes_eq word (codes "int64_t") || bytes_eq word (codes "size_t") || bytes_eq word (codes "ssize_t")
+    || bytes_eq word (codes "uintptr_t") || bytes_eq word (codes "intptr_t")
 
 -- a type of the kernel whose variables are locks
 unfoldable pub is_lock_type : List ℕ → Bool
@@ -54,6 +55,15 @@ is_type word = has_one_byte word || has_two_bytes word || has_four_bytes word ||
 unfoldable pub is_number : List ℕ → Bool
 is_number [] = false
 is_number (first ∷ others) = is_ascii_digit first
+
+-- a word beside a type that changes nothing here
+unfoldable pub is_qualifier : List ℕ → Bool
+is_qualifier word = bytes_eq word (codes "const") || bytes_eq word (codes "static") || bytes_eq word (codes "__rcu")
+
+-- it begins with a capital letter, as macros do that stand for numbers
+unfoldable pub is_constant : List ℕ → Bool
+is_constant [] = false
+is_constant (first ∷ others) = is_ascii_uppercase first && not (begins (first ∷ others) (codes "READ_ONCE"))
 
 -- letters that C has behind a number
 unfoldable pub is_suffix : List ℕ → Bool

@@ -3,7 +3,7 @@
 ghost use Rattle.std.specs.Prelude.{◌≡◌};
 ghost use Rattle.check_notes.specs.CallNotes as spec;
 
-use crate::common_notes::{atomic_note, jump_note, number_note, wait_note};
+use crate::common_notes::{atomic_note, bit_lock_note, jump_note, number_note, wait_note};
 use crate::words::is_jump;
 
 /// A call of the kernel's format that has to do with RCU.
@@ -15,6 +15,7 @@ fn is_of_rcu(name: &[u8]) -> bool
         || name.starts_with(b"srcu_")
         || name.starts_with(b"synchronize_")
         || name == b"smp_mb__after_srcu_read_unlock".as_slice()
+        || name == b"RCU_INIT_POINTER".as_slice()
 }
 
 /// The line on a call of RCU.
@@ -24,6 +25,9 @@ fn rcu_why(name: &[u8]) -> &'static str
 {
     if name.starts_with(b"rcu_assign_pointer") {
         return "note: write `smp_store_release(x, 1)`, of an `int`\n";
+    }
+    if name == b"RCU_INIT_POINTER".as_slice() {
+        return "note: write `WRITE_ONCE(*x, 1)`, of an `int`\n";
     }
     if name.starts_with(b"rcu_dereference") {
         return "note: write `READ_ONCE(*x)`, of an `int`\n";
@@ -132,6 +136,19 @@ fn is_aside(name: &[u8]) -> bool
         || name.starts_with(b"pr_")
 }
 
+/// A call that wakes, orders or checks, without an effect here.
+#[tactic(auto, unfolding(crate::specs::CallNotes::is_left_out))]
+fn is_left_out(name: &[u8]) -> bool
+    ensures { result ≡ spec.is_left_out name.now }
+{
+    name.starts_with(b"wake_up")
+        || name.starts_with(b"lockdep_")
+        || name.starts_with(b"seqcount_init")
+        || name == b"schedule".as_slice()
+        || name == b"dma_rmb".as_slice()
+        || name == b"dma_wmb".as_slice()
+}
+
 /// A call that gives a number before the program runs.
 #[tactic(auto, unfolding(crate::specs::CallNotes::is_of_number))]
 fn is_of_number(name: &[u8]) -> bool
@@ -164,7 +181,21 @@ fn ends_writing(name: &[u8]) -> bool
 fn ends_reading(name: &[u8]) -> bool
     ensures { result ≡ spec.ends_reading name.now }
 {
-    name.starts_with(b"read_seqretry") || name.starts_with(b"read_seqcount_retry")
+    name.starts_with(b"read_seqretry")
+        || name.starts_with(b"read_seqcount_retry")
+        || name.starts_with(b"__read_seqcount_retry")
+        || name.starts_with(b"need_seqretry")
+}
+
+/// A call of a sequence count whose values are read while the other copy is written.
+#[tactic(auto, unfolding(crate::specs::CallNotes::is_of_latch))]
+fn is_of_latch(name: &[u8]) -> bool
+    ensures { result ≡ spec.is_of_latch name.now }
+{
+    name.starts_with(b"raw_write_seqcount_latch")
+        || name.starts_with(b"write_seqcount_latch")
+        || name.starts_with(b"raw_read_seqcount_latch")
+        || name.starts_with(b"read_seqcount_latch_retry")
 }
 
 /// A call of a sequence count.
@@ -172,11 +203,13 @@ fn ends_reading(name: &[u8]) -> bool
 fn is_of_sequence(name: &[u8]) -> bool
     ensures { result ≡ spec.is_of_sequence name.now }
 {
-    name.starts_with(b"read_seq")
-        || name.starts_with(b"write_seq")
+    ends_reading(name)
+        || name.starts_with(b"read_seq")
         || name.starts_with(b"raw_read_seq")
+        || name.starts_with(b"__read_seq")
+        || name.starts_with(b"raw_seqcount_begin")
+        || name.starts_with(b"write_seq")
         || name.starts_with(b"raw_write_seq")
-        || name.starts_with(b"write_sequnlock")
 }
 
 /// The line on a call of a sequence count.
@@ -184,6 +217,14 @@ fn is_of_sequence(name: &[u8]) -> bool
 fn sequence_why(name: &[u8]) -> &'static str
     ensures { result.now ≡ spec.sequence_why name.now }
 {
+    if is_of_latch(name) {
+        return "note: a latch is an `int *seq`: the writer has `*seq += 1;` before it writes each copy; the reader begins by `s0 = READ_ONCE(*seq);` and ends by `kcsan_atomic_next(0); s1 = READ_ONCE(*seq); ok = s0 == s1;`\n";
+    }
+    if name.starts_with(b"write_seqcount_invalidate")
+        || name.starts_with(b"raw_write_seqcount_barrier")
+    {
+        return "note: of an `int *seq` write `kcsan_nestable_atomic_begin(); *seq += 2; kcsan_nestable_atomic_end();`, with `*seq += 1; *seq += 1;` for raw_write_seqcount_barrier\n";
+    }
     if begins_writing(name) {
         return "note: of an `int *seq` write `kcsan_nestable_atomic_begin(); *seq += 1;`\n";
     }
@@ -197,7 +238,7 @@ fn sequence_why(name: &[u8]) -> &'static str
         return "note: of an `int *seq` and a lock write `*seq += 1; kcsan_nestable_atomic_end(); spin_unlock(l);`\n";
     }
     if ends_reading(name) {
-        return "note: of an `int *seq` write `kcsan_atomic_next(0); s1 = READ_ONCE(*seq); ok = (s0 == s1) & !(s0 & 1);`, and a retry as a `for` with `if (!ok)`\n";
+        return "note: of an `int *seq` write `kcsan_atomic_next(0); s1 = READ_ONCE(*seq); ok = (s0 == s1) & !(s0 & 1);`, and a retry as a `for` with `if (!ok)`; `exists` asks `1:ok=1 /\\ ..` of P1\n";
     }
     "note: of an `int *seq` write `s0 = READ_ONCE(*seq); kcsan_atomic_next(100);`\n"
 }
@@ -224,30 +265,17 @@ fn function_why(name: &[u8]) -> &'static str
     "note: no other function is called: write its statements in its place, with its variables as parameters of the process\n"
 }
 
-/// A call that sets a bit by marked accesses.
-#[tactic(auto, unfolding(crate::specs::CallNotes::sets_bit))]
-fn sets_bit(name: &[u8]) -> bool
-    ensures { result ≡ spec.sets_bit name.now }
-{
-    name == b"set_bit".as_slice() || name.starts_with(b"test_and_set_bit")
-}
-
-/// A call that clears a bit by marked accesses.
-#[tactic(auto, unfolding(crate::specs::CallNotes::clears_bit))]
-fn clears_bit(name: &[u8]) -> bool
-    ensures { result ≡ spec.clears_bit name.now }
-{
-    name == b"clear_bit".as_slice()
-        || name == b"clear_bit_unlock".as_slice()
-        || name.starts_with(b"test_and_clear_bit")
-}
-
 /// A call that changes a bit by marked accesses.
 #[tactic(auto, unfolding(crate::specs::CallNotes::changes_bit))]
 fn changes_bit(name: &[u8]) -> bool
     ensures { result ≡ spec.changes_bit name.now }
 {
-    name == b"change_bit".as_slice() || name.starts_with(b"test_and_change_bit")
+    name == b"set_bit".as_slice()
+        || name.starts_with(b"clear_bit")
+        || name == b"change_bit".as_slice()
+        || name.starts_with(b"test_and_")
+        || name == b"clear_and_wake_up_bit".as_slice()
+        || name == b"assign_bit".as_slice()
 }
 
 /// A call that changes a bit by plain accesses.
@@ -258,6 +286,7 @@ fn changes_bit_plainly(name: &[u8]) -> bool
     name == b"__set_bit".as_slice()
         || name == b"__clear_bit".as_slice()
         || name == b"__change_bit".as_slice()
+        || name == b"__assign_bit".as_slice()
         || name.starts_with(b"__test_and_")
 }
 
@@ -266,20 +295,20 @@ fn changes_bit_plainly(name: &[u8]) -> bool
 fn bit_why(name: &[u8]) -> &'static str
     ensures { result.now ≡ spec.bit_why name.now }
 {
-    if name == b"test_bit".as_slice() {
+    if name.starts_with(b"test_bit") {
         return "note: bit 1 of an `int`: write `r0 = READ_ONCE(*x) & 2;`\n";
     }
-    if sets_bit(name) {
-        return "note: bit 1 of an `int`: `ok = 0; for (i = 0; i < 3; i++) if (!ok) { r0 = READ_ONCE(*x); r1 = cmpxchg(x, r0, r0 | 2); ok = r1 == r0; }`\n";
-    }
-    if clears_bit(name) {
-        return "note: bit 1 of an `int`: `ok = 0; for (i = 0; i < 3; i++) if (!ok) { r0 = READ_ONCE(*x); r1 = cmpxchg(x, r0, r0 & ~2); ok = r1 == r0; }`\n";
-    }
     if changes_bit(name) {
-        return "note: bit 1 of an `int`: `ok = 0; for (i = 0; i < 3; i++) if (!ok) { r0 = READ_ONCE(*x); r1 = cmpxchg(x, r0, r0 ^ 2); ok = r1 == r0; }`\n";
+        return "note: bit 1 of an `int`: `ok = 0; for (i = 0; i < 3; i++) if (!ok) { r0 = READ_ONCE(*x); r1 = cmpxchg(x, r0, r0 | 2); ok = r1 == r0; }` sets it, `r0 & ~2` there clears it, and `r0 ^ 2` changes it; then `r0 & 2` is what it was, and `ok` is 0 where each try failed\n";
     }
     if changes_bit_plainly(name) {
-        return "note: bit 1 of an `int` by plain accesses: `r0 = *x; *x = r0 | 2;` sets it, `r0 & ~2` clears it, `r0 ^ 2` changes it\n";
+        return "note: bit 1 of an `int` by plain accesses: `r0 = *x; *x = r0 | 2;` sets it, `r0 & ~2` clears it, `r0 ^ 2` changes it; `r0 & 2` is what it was\n";
+    }
+    if name == b"__clear_bit_unlock".as_slice() {
+        return "note: bit 1 of an `int`: write `r0 = READ_ONCE(*x); *x = r0 & ~2;`\n";
+    }
+    if name.starts_with(b"bit_spin_") {
+        return bit_lock_note();
     }
     function_why(name)
 }
@@ -309,10 +338,13 @@ fn made_of_others(name: &[u8]) -> &'static str
         return sequence_why(name);
     }
     if name.starts_with(b"smp_cond_load_") {
-        return "note: a wait has a number of tries: `ok = 0; for (i = 0; i < 3; i++) if (!ok) { r0 = smp_load_acquire(x); ok = r0 == 1; }` waits for 1, and `if (ok) { .. }` stands round what follows\n";
+        return "note: a wait has a number of tries: `ok = 0; for (i = 0; i < 3; i++) if (!ok) { r0 = smp_load_acquire(x); ok = r0 == 1; }` waits for 1; `if (ok) { .. }` stands round what follows, and `exists` asks `1:ok=1 /\\ ..` of P1\n";
     }
     if name.starts_with(b"wait_") {
         return wait_note();
+    }
+    if name == b"complete".as_slice() || name == b"complete_all".as_slice() {
+        return "note: a completion is an `int *done`: write `smp_store_release(done, 1);`, and what waits for it as a wait for 1\n";
     }
     if asserts(name) {
         return "note: what may come is asked by the condition, as `exists (1:r0=1)`\n";
@@ -441,7 +473,7 @@ pub(crate) fn call_why(name: &[u8]) -> &'static str
     if name.starts_with(b"try_cmpxchg") {
         return "note: write `r1 = cmpxchg(x, r0, 2);`, which wrote 2 if `r1` is `r0`\n";
     }
-    if has_no_effect(name) || is_aside(name) {
+    if has_no_effect(name) || is_aside(name) || is_left_out(name) {
         return "note: it changes nothing here: leave it out\n";
     }
     if name == b"smp_store_mb".as_slice() {

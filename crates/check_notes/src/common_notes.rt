@@ -24,7 +24,7 @@ pub(crate) fn number_note() -> &'static str
 pub(crate) fn name_note() -> &'static str
     ensures { result.now ≡ spec.name_note }
 {
-    "note: write the name alone, as in `spin_lock(l)`\n"
+    "note: write the name alone, as in `spin_lock(l)`, and `p_f` for a field `&p->f`; for `**p` write `r0 = *p; if (r0) r1 = *b;`\n"
 }
 
 /// That a variable stands behind `*`.
@@ -40,7 +40,7 @@ pub(crate) fn star_note() -> &'static str
 pub(crate) fn wait_note() -> &'static str
     ensures { result.now ≡ spec.wait_note }
 {
-    "note: a wait has a number of tries: `ok = 0; for (i = 0; i < 3; i++) if (!ok) { r0 = READ_ONCE(*x); ok = r0 == 1; }` waits for 1, with `ok = (r0 & 1) == 0;` for bit 0 to be 0; `if (ok) { .. }` stands round what follows\n"
+    "note: a wait has a number of tries: `ok = 0; for (i = 0; i < 3; i++) if (!ok) { r0 = READ_ONCE(*x); ok = r0 == 1; }` waits for 1, with `ok = (r0 & 1) == 0;` for bit 0 to be 0; `if (ok) { .. }` stands round what follows, and `exists` asks `1:ok=1 /\\ ..` of P1\n"
 }
 
 /// A loop ends.
@@ -48,7 +48,7 @@ pub(crate) fn wait_note() -> &'static str
 pub(crate) fn turns_note() -> &'static str
     ensures { result.now ≡ spec.turns_note }
 {
-    "note: a loop has a number of turns: `ok = 0; for (i = 0; i < 3; i++) if (!ok) { r0 = *x; ok = r0 == 1; }` ends once `r0` is 1, and `if (ok) { .. }` stands round what follows\n"
+    "note: a loop has a number of turns: `ok = 0; for (i = 0; i < 3; i++) if (!ok) { r0 = *x; ok = r0 == 1; }` ends once `r0` is 1; `if (ok) { .. }` stands round what follows, and `exists` asks `1:ok=1 /\\ ..` of P1\n"
 }
 
 /// That `~` is what says that something isn't so.
@@ -72,7 +72,7 @@ pub(crate) fn structure_note() -> &'static str
 pub(crate) fn field_note() -> &'static str
     ensures { result.now ≡ spec.field_note }
 {
-    "note: a field is a variable of its own: for `p->f` write `*p_f`, of an `int *p_f`\n"
+    "note: a field is a variable of its own: for `p->f` write `*p_f`, and for `&p->f` `p_f`, of an `int *p_f`; where `p` was loaded, with 1 for `&b`, write `if (p == 1) r0 = *b_f;`\n"
 }
 
 /// An element has no name of its own here.
@@ -81,6 +81,14 @@ pub(crate) fn element_note() -> &'static str
     ensures { result.now ≡ spec.element_note }
 {
     "note: there are no arrays: each element is a variable of its own, as `*x0` of an `int *x0`\n"
+}
+
+/// A lock that is one bit of a word.
+#[tactic(auto, unfolding(crate::specs::CommonNotes::bit_lock_note))]
+pub(crate) fn bit_lock_note() -> &'static str
+    ensures { result.now ≡ spec.bit_lock_note }
+{
+    "note: a lock in bit 0 of an `int`: `ok = 0; for (i = 0; i < 3; i++) if (!ok) { r0 = READ_ONCE(*x); r1 = cmpxchg(x, r0, r0 | 1); ok = (r1 == r0) & !(r0 & 1); }` takes it where `ok` is 1, with `if (ok) { .. }` round what follows; the same with `r0 & ~1` and `ok = r1 == r0;` gives it back, and `READ_ONCE(*x) & 1` asks for it\n"
 }
 
 /// A pointer is a number.
@@ -131,12 +139,12 @@ pub(crate) fn sequence_note() -> &'static str
     "note: a sequence count is an `int *seq`; a sequence lock is one and a `spinlock_t *l`\n"
 }
 
-/// A word that changes nothing here.
+/// Words that change nothing here.
 #[tactic(auto, unfolding(crate::specs::CommonNotes::const_note))]
 pub(crate) fn const_note() -> &'static str
     ensures { result.now ≡ spec.const_note }
 {
-    "note: leave out `const`\n"
+    "note: leave out `const`, `static` and `__rcu`\n"
 }
 
 /// How one is added.

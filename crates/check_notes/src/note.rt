@@ -5,9 +5,11 @@ ghost use Rattle.check_notes.specs.Notes as spec;
 
 use crate::call_notes::call_why;
 use crate::common_notes::{
-    block_note, field_note, name_note, pointer_note, star_note, turns_note, value_note, wait_note,
+    bit_lock_note, block_note, name_note, pointer_note, star_note, turns_note, value_note,
+    wait_note,
 };
 use crate::syntax_notes::{behind_token, fault_note, is_part, part_note};
+use crate::words::is_constant;
 use litmus_lex::{Expected, Sign, Unread};
 use litmus_parse::Reason;
 
@@ -23,11 +25,14 @@ fn section_why(name: &[u8]) -> &'static str
     }
 }
 
-/// The line on a loop that waits, or that has a turn before it asks whether it ends.
+/// The line on a loop that waits, as for a bit that it sets, or that has a turn before it asks whether it ends.
 #[tactic(auto, unfolding(crate::specs::Notes::loop_why))]
-fn loop_why(word: &[u8]) -> &'static str
-    ensures { result.now ≡ spec.loop_why word.now }
+fn loop_why(word: &[u8], rest: &[u8]) -> &'static str
+    ensures { result.now ≡ spec.loop_why word.now rest.now }
 {
+    if rest.starts_with(b"while (test_and_set_bit") || rest.starts_with(b"while(test_and_set_bit") {
+        return bit_lock_note();
+    }
     if word == b"while".as_slice() {
         return wait_note();
     }
@@ -71,7 +76,7 @@ fn structure_why(rest: &[u8]) -> &'static str
     if rest.starts_with(b"struct mutex") {
         return "note: a mutex is a `spinlock_t`, with `spin_lock` and `spin_unlock`\n";
     }
-    field_note()
+    "note: each field is a variable of its own, as `int *m_f` for `m->f`; a pointer is a number, 1 for `&m` and 0 for NULL: `int *p` for a parameter `struct msg **p`, and `int p` as an item or a register\n"
 }
 
 /// A word of C.
@@ -111,10 +116,10 @@ fn operator_why(sign: &[u8]) -> &'static str
     ensures { result.now ≡ spec.operator_why sign.now }
 {
     if sign == b"&&".as_slice() {
-        return "note: comparisons are joined by `&`, as `(r0 == 1) & (r1 == 2)`\n";
+        return "note: comparisons are joined by `&`, as `(r0 == 1) & (r1 == 2)`; where the right side loads, write `ok = r0 == 1; if (ok) ok = *y == 2; if (ok) ..`\n";
     }
     if sign == b"||".as_slice() {
-        return "note: comparisons are joined by `|`, as `(r0 == 1) | (r1 == 2)`\n";
+        return "note: comparisons are joined by `|`, as `(r0 == 1) | (r1 == 2)`; where the right side loads, write `ok = r0 == 1; if (!ok) ok = *y == 2; if (ok) ..`\n";
     }
     if sign == b"?".as_slice() {
         return "note: write `if (r0) r1 = 1; else r1 = 2;`\n";
@@ -123,7 +128,7 @@ fn operator_why(sign: &[u8]) -> &'static str
         return "note: write `r0 * 4` for `r0 << 2`, and the number itself for `1 << 2`\n";
     }
     if sign == b">>".as_slice() {
-        return "note: a bit is tested by `r0 & 4`\n";
+        return "note: a bit is tested by `r0 & 4`, and `(r0 >> 2) & 1` is `(r0 & 4) != 0`; of a register from 0 to 7, as `r0 = *x;` loads, `r0 >> 2` is `r0 >= 4`\n";
     }
     division_why(sign)
 }
@@ -160,24 +165,54 @@ fn type_why(expected: Expected) -> &'static str
     }
 }
 
-/// A pointer that is made behind this word, or where an item begins.
-#[tactic(auto, unfolding(crate::specs::Notes::pointer_why))]
-fn pointer_why(before: &[u8]) -> &'static str
-    ensures { result.now ≡ spec.pointer_why before.now }
+/// A parameter ends behind the name that these bytes have: of `,` `)` `=` `;` one of the first two comes first.
+fn ends_parameter(mut bytes: &[u8]) -> bool
+    ensures { result ≡ spec.ends_parameter bytes.entry.now }
 {
-    match before {
-        [] => block_note(),
-        [_, ..] =>
-            "note: a variable is `int x` as an item and `int *x` as a parameter; a register is `int r0`, and a pointer in it a number\n",
+    while let [byte, rest @ ..] = bytes {
+        if *byte == b',' || *byte == b')' {
+            return true;
+        }
+        if *byte == b'=' || *byte == b';' {
+            return false;
+        }
+        bytes = rest;
+    }
+    false
+}
+
+/// A pointer that is made behind this word or behind a sign, by a `*` that these bytes begin with.
+#[tactic(auto, unfolding(crate::specs::Notes::variable_pointer_why))]
+fn variable_pointer_why(before: &[u8], rest: &[u8]) -> &'static str
+    ensures { result.now ≡ spec.variable_pointer_why before.now rest.now }
+{
+    if !before.is_empty() {
+        return "note: an item is `int x`, with no `*`: a pointer is a number, 1 for `&b` and 0 for NULL\n";
+    }
+    if ends_parameter(rest) {
+        return "note: a pointer is a number, 1 for `&b` and 0 for NULL: write `int *p` for `int **p`\n";
+    }
+    block_note()
+}
+
+/// A pointer that is made where this is expected.
+#[tactic(auto, unfolding(crate::specs::Notes::pointer_why))]
+fn pointer_why(expected: Expected, before: &[u8], rest: &[u8]) -> &'static str
+    ensures { result.now ≡ spec.pointer_why expected before.now rest.now }
+{
+    match expected {
+        Expected::Register =>
+            "note: a register is `int r0`, and a pointer in it a number, 1 for `&b` and 0 for NULL\n",
+        _ => variable_pointer_why(before, rest),
     }
 }
 
 /// A name as an initial value, which these bytes follow.
 #[tactic(auto, unfolding(crate::specs::Notes::name_why))]
-fn name_why(behind: &[u8]) -> &'static str
-    ensures { result.now ≡ spec.name_why behind.now }
+fn name_why(name: &[u8], behind: &[u8]) -> &'static str
+    ensures { result.now ≡ spec.name_why name.now behind.now }
 {
-    if behind.starts_with(b"(") {
+    if behind.starts_with(b"(") && !is_constant(name) && !name.starts_with(b"sizeof") {
         return block_note();
     }
     value_note()
@@ -191,15 +226,15 @@ fn why(unread: Unread, expected: Expected, token: &[u8], before: &[u8], rest: &[
     match unread {
         Unread::Call => call_why(token),
         Unread::Section => section_why(token),
-        Unread::Loop => loop_why(token),
+        Unread::Loop => loop_why(token, rest),
         Unread::Type => word_why(token, rest),
         Unread::Operator => operator_why(token),
         Unread::Address => address_why(expected),
         Unread::Load => "note: load into a register first, as `r0 = *x;`\n",
         Unread::OtherType => type_why(expected),
-        Unread::Pointer => pointer_why(before),
+        Unread::Pointer => pointer_why(expected, before, rest),
         Unread::Label => "note: a process gives it a value, as `r0 = 1;`\n",
-        Unread::Name => name_why(behind_token(token, rest)),
+        Unread::Name => name_why(token, behind_token(token, rest)),
         Unread::LockValue =>
             "note: an item `spinlock_t l` has no value, and the condition no lock\n",
         Unread::Counter =>

@@ -6,15 +6,16 @@ ghost use Rattle.check_notes.specs.SyntaxNotes as spec;
 use crate::common_notes::{
     bare_note, block_note, compared_note, const_note, element_note, field_note, implied_note,
     increase_note, join_note, jump_note, name_note, number_note, sequence_note, star_note,
-    structure_note, tilde_note, value_note,
+    structure_note, tilde_note,
 };
 use crate::words::{
-    has_eight_bytes, has_four_bytes, has_one_byte, has_two_bytes, is_atomic_type, is_jump,
-    is_lock_type, is_number, is_operator, is_sequence_type, is_suffix, is_type,
+    has_eight_bytes, has_four_bytes, has_one_byte, has_two_bytes, is_atomic_type, is_constant,
+    is_jump, is_lock_type, is_number, is_operator, is_qualifier, is_sequence_type, is_suffix,
+    is_type,
 };
 use litmus_lex::{Expected, Fault, Sign};
 
-/// Which type is read in the place of a word that is a type of the kernel.
+/// Which type is read in the place of a word that is a type of the kernel, or how a parameter is written.
 #[tactic(auto, unfolding(crate::specs::SyntaxNotes::type_note))]
 fn type_note(word: &[u8]) -> &'static str
     ensures { result.now ≡ spec.type_note word.now }
@@ -40,7 +41,7 @@ fn type_note(word: &[u8]) -> &'static str
     if is_atomic_type(word) {
         return "note: an atomic variable is an `atomic_t`, of 4 bytes\n";
     }
-    ""
+    "note: a parameter is a type and a name behind `*`, as `int *x`, and a structure one for each field, as `int *m_f`\n"
 }
 
 /// A word or an operator that joins conditions in C.
@@ -94,6 +95,9 @@ fn behind_number(token: &[u8], rest: &[u8]) -> &'static str
     if token == b",".as_slice() {
         return "note: `;` stands between, as in `int x = 1; int y = 2;`\n";
     }
+    if token == b":".as_slice() {
+        return "note: a register is compared with a number alone: for two of P0 write `eq = r0 == r1;` there and `0:eq=1` here; for those of two processes write each case, as `0:r0=1 /\\ 1:r0=1`\n";
+    }
     if token.starts_with(b"b") {
         return "note: a number is decimal, or hexadecimal behind 0x: for 0b11 write 3\n";
     }
@@ -106,7 +110,10 @@ fn register_note(token: &[u8], rest: &[u8]) -> &'static str
     ensures { result.now ≡ spec.register_note token.now rest.now }
 {
     if token == b":".as_slice() {
-        return jump_note();
+        return "note: no label is read: leave it out; what `goto` would repeat is a loop, as `ok = 0; for (i = 0; i < 3; i++) if (!ok) { r0 = *x; ok = r0 == 1; }`, with `if (ok) { .. }` round what follows\n";
+    }
+    if token == b"*".as_slice() && !rest.starts_with(b"*=") {
+        return "note: a register is declared as `int r0`, also for a pointer, which is a number\n";
     }
     if rest.starts_with(b"->") {
         return field_note();
@@ -115,7 +122,7 @@ fn register_note(token: &[u8], rest: &[u8]) -> &'static str
         return "note: write `r0 = r0 - 1`\n";
     }
     if is_operator(token) || token == b"+=".as_slice() {
-        return "note: a register is assigned by `=` alone, as `r0 = r0 | 1`; in the condition `=` alone compares\n";
+        return "note: a register is assigned by `=` alone, as `r0 = r0 | 1;`; the condition computes nothing: it has `0:r1=2` for `r1 = r0 & 2;` in P0, and `x=1` for `x + 1 = 2`\n";
     }
     if token == b"==".as_slice() {
         return "note: it is one `=`, as `exists (0:r0=1)`\n";
@@ -144,7 +151,7 @@ fn statement_note(token: &[u8], rest: &[u8]) -> &'static str
         return "note: a declaration gives one value: `int r0 = 1; int r1 = 2;`\n";
     }
     if is_operator(token) {
-        return "note: with an operator there is `+=` alone, which is one access as `|=` is; `r0 = *x | 1; *x = r0;` is two\n";
+        return "note: with an operator there is `+=` alone, which is one access as `|=` is; `r0 = *x | 4; *x = r0;` is two, as are `r0 = *x & ~4; *x = r0;` and the same with `^` and `*`\n";
     }
     ""
 }
@@ -170,6 +177,9 @@ fn unstarred_note(token: &[u8]) -> &'static str
 {
     if token == b"void".as_slice() {
         return "note: a load is a statement without a cast\n";
+    }
+    if is_qualifier(token) {
+        return const_note();
     }
     star_note()
 }
@@ -254,6 +264,9 @@ fn starred_note(token: &[u8]) -> &'static str
     if token == b"*".as_slice() {
         return name_note();
     }
+    if token == b"(".as_slice() || token == b"READ_ONCE".as_slice() {
+        return "note: a name alone stands behind `*`: write `*x` for `*(int *)x`, or with `volatile` `READ_ONCE(*x)` and `WRITE_ONCE(*x, 1)`; a variable of its own for `*(x + 1)`; and `r0 = READ_ONCE(*p); if (r0) r1 = *b;` for `*READ_ONCE(*p)`\n";
+    }
     if is_number(token) {
         return "note: the variable comes first, as in `atomic_set(f, 1)` and `xchg(x, 1)`, and last in `atomic_add(1, f)`\n";
     }
@@ -265,11 +278,11 @@ fn starred_note(token: &[u8]) -> &'static str
 fn parameter_note(token: &[u8]) -> &'static str
     ensures { result.now ≡ spec.parameter_note token.now }
 {
-    if token == b"const".as_slice() {
+    if is_qualifier(token) {
         return const_note();
     }
     if token == b"void".as_slice() {
-        return "note: a process without variables begins with `P0()`\n";
+        return "note: a process without variables begins with `P0()`, and a `void *x` is an `int *x`\n";
     }
     type_note(token)
 }
@@ -373,18 +386,24 @@ fn expression_note(token: &[u8]) -> &'static str
     ""
 }
 
-/// Behind an item.
+/// Behind an item, or behind this word that is taken for one.
 #[tactic(auto, unfolding(crate::specs::SyntaxNotes::item_end_note))]
-fn item_end_note(token: &[u8]) -> &'static str
-    ensures { result.now ≡ spec.item_end_note token.now }
+fn item_end_note(token: &[u8], before: &[u8]) -> &'static str
+    ensures { result.now ≡ spec.item_end_note token.now before.now }
 {
+    if token == b"(".as_slice() && is_constant(before) {
+        return "note: an item is a type and a name: `spinlock_t l;` for a lock, `int seq;` for a sequence count, both for a seqlock, and `int f;` for bits\n";
+    }
+    if token == b"(".as_slice() {
+        return block_note();
+    }
     if token == b",".as_slice() {
         return "note: each variable is an item of its own, as `int x; int y;`\n";
     }
     if token == b":".as_slice() {
         return "note: bits of a word have no names: to set bit 1 of an `int *x`, as C does it, is `r0 = *x; *x = r0 | 2;`, and `*x & 2` reads it\n";
     }
-    ""
+    "note: this is the initialization block, from the first `{`: an item is `int x;` or `int x = 1;`; leave out one of another type than char, short, int, long, atomic_t and spinlock_t, or write it as an `int`\n"
 }
 
 /// In the place of an item.
@@ -406,6 +425,9 @@ fn initial_note(token: &[u8]) -> &'static str
     if token == b"*".as_slice() {
         return block_note();
     }
+    if token == b"(".as_slice() {
+        return number_note();
+    }
     ""
 }
 
@@ -426,10 +448,12 @@ fn place_note(expected: Expected, token: &[u8], before: &[u8], rest: &[u8]) -> &
     ensures { result.now ≡ spec.place_note expected token.now before.now rest.now }
 {
     match expected {
-        Expected::Number => value_note(),
+        Expected::Number =>
+            "note: write the number itself, as 0x1, and 1 for a pointer `&b` and 0 for NULL; two values are compared in a process, as `r2 = r0 == r1;`\n",
         Expected::Type => parameter_note(token),
         Expected::Expression => expression_note(token),
-        Expected::ItemEnd => item_end_note(token),
+        Expected::ItemEnd => item_end_note(token, before),
+        Expected::ParameterEnd => "note: `,` stands between two parameters, as `int *x, int *y`\n",
         Expected::Variable => item_note(token),
         Expected::Value => initial_note(token),
         Expected::Statement => statement_place_note(token),
@@ -462,6 +486,9 @@ fn is_truth(token: &[u8]) -> bool
 fn token_note(expected: Expected, token: &[u8], before: &[u8], rest: &[u8]) -> &'static str
     ensures { result.now ≡ spec.token_note expected token.now before.now rest.now }
 {
+    if before == b"break".as_slice() {
+        return "note: no jump is read: a loop ends sooner as `ok = 0; for (i = 0; i < 3; i++) if (!ok) { r0 = *x; ok = r0 == 1; }`, with `if (!ok) { .. }` round what else a turn has\n";
+    }
     if is_jump(before) {
         return jump_note();
     }
@@ -471,8 +498,11 @@ fn token_note(expected: Expected, token: &[u8], before: &[u8], rest: &[u8]) -> &
     if is_number(before) {
         return behind_number(token, rest);
     }
-    if before == b"const".as_slice() {
+    if is_qualifier(before) {
         return const_note();
+    }
+    if before == b"enum".as_slice() || before == b"union".as_slice() {
+        return "note: write a constant of an `enum` as its number, and a field of a `union` as a variable, and leave this out\n";
     }
     if token == b"++".as_slice() {
         return increase_note();
@@ -505,7 +535,7 @@ fn unknown_note(expected: Expected, token: &[u8]) -> &'static str
 fn stray_note(token: &[u8], rest: &[u8]) -> &'static str
     ensures { result.now ≡ spec.stray_note token.now rest.now }
 {
-    if rest.starts_with(b"#include") {
+    if rest.starts_with(b"#include") || rest.starts_with(b"# include") {
         return "note: no file is included: leave the line out\n";
     }
     if token == b"#".as_slice() {
@@ -513,6 +543,9 @@ fn stray_note(token: &[u8], rest: &[u8]) -> &'static str
     }
     if token == b".".as_slice() {
         return field_note();
+    }
+    if token == b"'".as_slice() {
+        return "note: a character is a number: write 97 for `'a'`\n";
     }
     ""
 }
@@ -529,18 +562,34 @@ pub(crate) fn behind_token<'a>(token: &[u8], rest: &'a [u8]) -> &'a [u8]
     }
 }
 
-/// In the place of a variable of the process, which these bytes follow.
-#[tactic(auto, unfolding(crate::specs::SyntaxNotes::variable_note))]
-fn variable_note(behind: &[u8]) -> &'static str
-    ensures { result.now ≡ spec.variable_note behind.now }
+/// A variable of the process, where it is neither written nor read.
+#[tactic(auto, unfolding(crate::specs::SyntaxNotes::unaccessed_note))]
+fn unaccessed_note(expected: Expected) -> &'static str
+    ensures { result.now ≡ spec.unaccessed_note expected }
 {
+    match expected {
+        Expected::Statement =>
+            "note: its memory is written as `*x`, or by a call, as `WRITE_ONCE(*x, 1)`; a register has another name\n",
+        _ =>
+            "note: its value is read as `r0 = *x;` or `r0 = READ_ONCE(*x);`, and its address is a number, as 1 for `&x`\n",
+    }
+}
+
+/// In the place of a variable of the process, behind this word and before these bytes.
+#[tactic(auto, unfolding(crate::specs::SyntaxNotes::variable_note))]
+fn variable_note(expected: Expected, before: &[u8], behind: &[u8]) -> &'static str
+    ensures { result.now ≡ spec.variable_note expected before.now behind.now }
+{
+    if is_read_type(before) {
+        return "note: a parameter has this name: give the register another one\n";
+    }
     if behind.starts_with(b"++") {
         return increase_note();
     }
     if behind.starts_with(b",") {
-        return "note: a value is a number or a register, as `r0 = *x;` gives; `atomic_add(1, f)` has the variable last\n";
+        return "note: a value is a number or a register, as `r0 = *x;` gives, and an address a number, as 1 for `&x`; `atomic_add(1, f)` has the variable last\n";
     }
-    "note: its memory is read and written as `*x`, or by a call, as `WRITE_ONCE(*x, 1)`\n"
+    unaccessed_note(expected)
 }
 
 /// In the place of a comment that goes on to the end.
@@ -567,7 +616,8 @@ pub(crate) fn fault_note(
 {
     match fault {
         Fault::Token => token_note(expected, token, before, rest),
-        Fault::Variable => variable_note(behind_token(token, rest)),
+        Fault::Variable => variable_note(expected, before, behind_token(token, rest)),
+        Fault::Twice => "note: leave it out: the process has this parameter\n",
         Fault::Unknown => unknown_note(expected, token),
         Fault::Stray => stray_note(token, rest),
         Fault::Unclosed => comment_note(expected),

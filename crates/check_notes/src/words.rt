@@ -59,6 +59,8 @@ pub(crate) fn has_eight_bytes(word: &[u8]) -> bool
         || word == b"int64_t".as_slice()
         || word == b"size_t".as_slice()
         || word == b"ssize_t".as_slice()
+        || word == b"uintptr_t".as_slice()
+        || word == b"intptr_t".as_slice()
 }
 
 /// A type that the kernel has, whose variables are locks.
@@ -108,6 +110,25 @@ pub(crate) fn is_number(word: &[u8]) -> bool
 {
     match word {
         [first, ..] => first.is_ascii_digit(),
+        [] => false,
+    }
+}
+
+/// A word beside a type that changes nothing here.
+#[tactic(auto, unfolding(crate::specs::Words::is_qualifier))]
+pub(crate) fn is_qualifier(word: &[u8]) -> bool
+    ensures { result ≡ spec.is_qualifier word.now }
+{
+    word == b"const".as_slice() || word == b"static".as_slice() || word == b"__rcu".as_slice()
+}
+
+/// It begins with a capital letter, as macros do that stand for numbers.
+#[tactic(auto, unfolding(crate::specs::Words::is_constant))]
+pub(crate) fn is_constant(word: &[u8]) -> bool
+    ensures { result ≡ spec.is_constant word.now }
+{
+    match word {
+        [first, ..] => first.is_ascii_uppercase() && !word.starts_with(b"READ_ONCE"),
         [] => false,
     }
 }
