@@ -1,17 +1,23 @@
 //! Reads rows from standard input and prints those of which something else comes: histories, with what the definitions
 //! say of them; executions, with the verdict on a pair of sites; plays of some checkers over one board, move by move;
-//! records, with what they are of a check; and litmus texts, with their bounded executions.
+//! records, with what they are of a check; litmus texts, with their bounded executions, the pairs of their sites that
+//! conflict, searches of their states, and worlds that are stopped after each step; and boards by their numbers.
 #![tactic(auto)]
 
 mod accesses;
+mod boards;
 mod checks;
+mod conflicts;
 mod definitions;
 mod histories;
 mod moves;
 mod play;
+mod programs;
 mod searched;
+mod searches;
 mod setting;
 mod steps;
+mod stops;
 mod verdicts;
 mod words;
 
@@ -93,6 +99,10 @@ fn other_answer(
 fn answer(alloc: Global, texts: &Texts, word: &str, asked: &str) -> Result<String, Fault> {
     let (asked, told) = asked.split_once(" | ").unwrap_or((asked, ""));
     match word {
+        "pairs" | "states" | "alone" | "stops" | "counts" => {
+            programs::answer(alloc, texts, word, asked)
+        }
+        "boards" => boards::answer(alloc, asked),
         "count" | "lists" => searched::answer(alloc, texts, word, asked),
         "checker" => checks::new_checker(alloc, asked),
         "records" => checks::reading(alloc, asked, told),

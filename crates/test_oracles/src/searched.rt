@@ -5,6 +5,7 @@ use crate::words::{Fault, Words, number_of};
 use litmus_parse::{ParseError, parse};
 use litmus_step::{RunError, Settings};
 use oracle_steps::oracle_searched::searched_schedules;
+use prepared_program::program_layout::Place;
 use std::alloc::{AllocError, Global};
 use test_rows::texts::Texts;
 use watch_word::Layout;
@@ -31,10 +32,10 @@ impl From<RunError> for Fault {
 pub fn answer(alloc: Global, texts: &Texts, word: &str, asked: &str) -> Result<String, Fault> {
     let mut words = Words::of(asked);
     let text = texts.get(words.word()?).ok_or(Fault::NoRow)?;
-    let (strict, turns) = rules_of(words.word()?)?;
+    let rules = rules_of(words.word()?)?;
     let most = bound(words.word()?)?;
     words.end()?;
-    let settings = settings(alloc, strict, turns);
+    let settings = settings(rules, Vec::new(alloc));
     let schedules = schedules(alloc, text, &settings, most)?;
     if word == "count" {
         return Ok(format!(in alloc; "{}", schedules.len())?);
@@ -50,31 +51,45 @@ fn bound(word: &str) -> Result<Option<u64>, Fault> {
     Ok(Some(number_of(word)?))
 }
 
-/// What a word for the rules says, `usual`, `strict` or `turns=N`: whether they are strict, and after how many failed
-/// tries a wait is stuck.
-fn rules_of(word: &str) -> Result<(bool, u64), Fault> {
-    match word {
-        "usual" => Ok((false, 1000)),
-        "strict" => Ok((true, 1000)),
-        _ => Ok((
-            false,
-            number_of(word.strip_prefix("turns=").ok_or(Fault::NoRow)?)?,
-        )),
-    }
+/// The rules of an execution.
+#[derive(Clone, Copy)]
+pub struct Rules {
+    strict: bool,
+    skip: u64,
+    turns: u64,
 }
 
-/// The settings of these rules.
-fn settings(alloc: Global, strict: bool, turns: u64) -> Settings {
+/// What a word for the rules says: `usual`, `strict`, `skip=N`, where N accesses are skipped before one is watched, or
+/// `turns=N`, where a wait is stuck after so many failed tries.
+pub fn rules_of(word: &str) -> Result<Rules, Fault> {
+    let (name, number) = word.split_once('=').unwrap_or((word, "0"));
+    let number = number_of(number)?;
+    let (strict, skip, turns) = match name {
+        "usual" => (false, 0, 1000),
+        "strict" => (true, 0, 1000),
+        "skip" => (false, number, 1000),
+        "turns" => (false, 0, number),
+        _ => return Err(Fault::NoRow),
+    };
+    Ok(Rules {
+        strict,
+        skip,
+        turns,
+    })
+}
+
+/// The settings of these rules, with places.
+pub fn settings(rules: Rules, places: Vec<Place>) -> Settings {
     Settings {
         slots: 64,
-        skip: 0,
+        skip: rules.skip,
         randomize: false,
         seed: 1,
-        value_change_only: !strict,
-        plain_writes_atomic: !strict,
+        value_change_only: !rules.strict,
+        plain_writes_atomic: !rules.strict,
         layout: Layout::W64,
-        turns,
-        places: Vec::new(alloc),
+        turns: rules.turns,
+        places,
     }
 }
 

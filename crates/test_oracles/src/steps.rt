@@ -22,6 +22,8 @@ pub fn step_of(text: &str) -> Result<Step, Fault> {
         "tell" => Step::Tell(words.index()?, words.small()?),
         "clear" => Step::Clear(words.index()?),
         "cell" => Step::CellLoad(words.index()?),
+        "lock_try" => Step::LockTry(words.index()?, words.small()?),
+        "lock_store" => Step::LockStore(words.index()?),
         "exchange" => Step::CellExchange(words.index()?, words.number()?, words.number()?),
         _ => return Err(Fault::NoRow),
     };

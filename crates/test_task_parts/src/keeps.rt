@@ -1,7 +1,7 @@
 //! What a task keeps over a few of its doings, and of its steps.
 
 use crate::fault::{Fault, written};
-use crate::notation::{Phrase, cut, kind_of, number, push_flag, push_number};
+use crate::notation::{Phrase, cut, kind_of, number, push_all, push_flag, push_number};
 use crate::process::SITES;
 use crate::script::{Asked, Scripted, begin_word, came_of};
 use access_types::Access;
@@ -99,17 +99,6 @@ fn begins(progress: &mut Progress, site: usize) -> Result<(), Fault> {
         return Err(Fault::NoRow);
     }
     progress.begins_at(site);
-    Ok(())
-}
-
-/// Writes numbers with commas between them.
-fn push_all(came: &mut String, numbers: &[u64]) -> Result<(), AllocError> {
-    for (place, number) in numbers.iter().enumerate() {
-        if place > 0 {
-            came.push(',')?;
-        }
-        push_number(came, *number)?;
-    }
     Ok(())
 }
 

@@ -1,17 +1,20 @@
 //! Reads rows from standard input, each a part of a task and what comes of it: what is done to memory, accesses, the
-//! walk of a text, what a statement is about to do, what is kept, and what is the same of two texts. Prints those of
-//! which something else comes.
+//! walk of a text, what a statement is about to do, what is kept, and what is the same of two texts; also what a task's
+//! calls lead to, values, and where variables stand. Prints those of which something else comes.
 #![tactic(auto)]
 
 mod accesses;
+mod contexts;
 mod fault;
 mod keeps;
+mod layouts;
 mod notation;
 mod operations;
 mod pairs;
 mod plans;
 mod process;
 mod script;
+mod values;
 mod walks;
 
 use fault::Fault;
@@ -84,6 +87,12 @@ fn outcome(alloc: Global, start: &str, script: &str) -> Result<String, Fault> {
         "log" => keeps::log(alloc, rest),
         "apart" => pairs::apart(alloc, rest),
         "places" => pairs::places(alloc, rest, script),
-        _ => Err(Fault::NoRow),
+        "context" => contexts::context(alloc, script),
+        "sampler" => contexts::sampler(alloc, rest),
+        "samplers" => contexts::samplers(alloc, rest),
+        "layout" => layouts::layout(alloc, rest, script),
+        "tickets" => layouts::tickets(alloc, rest, script),
+        "sites" => layouts::sites(alloc, rest),
+        _ => values::answer(alloc, kind, rest),
     }
 }

@@ -28,9 +28,14 @@ impl<'t> Phrase<'t> {
         }
     }
 
+    /// What stands at a place, from 0, among its numbers.
+    pub fn word(self, place: usize) -> Result<&'t str, Fault> {
+        self.numbers.split(',').nth(place).ok_or(Fault::NoRow)
+    }
+
     /// Its number at a place, from 0.
     pub fn number(self, place: usize) -> Result<u64, Fault> {
-        number(self.numbers.split(',').nth(place).ok_or(Fault::NoRow)?)
+        number(self.word(place)?)
     }
 
     /// Its first number, where it is that of an index, a cell or the like.
@@ -122,6 +127,17 @@ pub fn push_optional(text: &mut String, number: Option<u64>) -> Result<(), Alloc
         Some(number) => push_number(text, number),
         None => text.push_str("-"),
     }
+}
+
+/// Writes numbers with commas between them.
+pub fn push_all(text: &mut String, numbers: &[u64]) -> Result<(), AllocError> {
+    for (place, number) in numbers.iter().enumerate() {
+        if place > 0 {
+            text.push(',')?;
+        }
+        push_number(text, *number)?;
+    }
+    Ok(())
 }
 
 /// Writes two numbers with a comma between them, each `-` where there is none.

@@ -19,7 +19,7 @@ pub fn plan(alloc: Global, start: &str) -> Result<String, Fault> {
 
 /// What comes of the first statement of a program, with these values of its registers.
 fn said_of_first(alloc: Global, program: &Program, registers: &str) -> Result<String, Fault> {
-    let registers = registers_of(alloc, registers)?;
+    let registers = numbers_of(alloc, registers)?;
     match first_plan(alloc, program, registers.as_slice())? {
         Some(plan) => said(alloc, plan),
         None => Ok(String::from_str(alloc, "none")?),
@@ -49,8 +49,8 @@ fn first_plan<'p>(
     Ok(planned(planner, walk.go_on()))
 }
 
-/// Values with commas between them; `-` for none.
-fn registers_of(alloc: Global, text: &str) -> Result<Vec<u64>, Fault> {
+/// Numbers with commas between them; `-` for none.
+pub fn numbers_of(alloc: Global, text: &str) -> Result<Vec<u64>, Fault> {
     let mut registers = Vec::new(alloc);
     if text == "-" {
         return Ok(registers);

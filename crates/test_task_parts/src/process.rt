@@ -1,5 +1,9 @@
 //! Programs of one process, read from a row.
 
+ghost use Rattle.std.specs.Prelude.{IfOk};
+ghost use Rattle.litmus_syntax.specs.Limits.{KeepsLimits};
+ghost use Rattle.litmus_syntax.specs.Views.{program_of};
+
 use crate::fault::Fault;
 use litmus_parse::{Program, parse};
 use litmus_syntax::Statement;
@@ -12,13 +16,20 @@ use task_plan::count::sites_in;
 pub const SITES: usize = 256;
 
 /// At most so many variables are in a program.
-const VARIABLES: usize = 32;
+pub const VARIABLES: usize = 32;
 
 /// The program of a process, of which a row has the parameters and the body.
-pub fn program_of(alloc: Global, process: &str) -> Result<Program, Fault> {
-    let mut text = String::from_str(alloc, "C t\n{}\nP0")?;
-    text.push_str(process)?;
-    text.push_str("\nexists (true)\n")?;
+pub fn program_of(alloc: Global, process: &str) -> Result<Program, Fault>
+    ensures { IfOk result (λ program. KeepsLimits (program_of program)) }
+{
+    program_from(alloc, "{}", process)
+}
+
+/// The program of a process and of a block that says what its variables hold at first.
+pub fn program_from(alloc: Global, block: &str, process: &str) -> Result<Program, Fault>
+    ensures { IfOk result (λ program. KeepsLimits (program_of program)) }
+{
+    let text = format!(in alloc; "C t\n{block}\nP0{process}\nexists (true)\n")?;
     Ok(parse(alloc, text.as_bytes())?)
 }
 

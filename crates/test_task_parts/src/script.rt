@@ -46,7 +46,7 @@ pub fn begin_word<'t>(came: &mut String, word: &'t str) -> Result<Asked<'t>, All
 }
 
 /// Writes a blank behind what came so far, if anything came.
-fn push_blank(came: &mut String) -> Result<(), AllocError> {
+pub fn push_blank(came: &mut String) -> Result<(), AllocError> {
     if came.is_empty() {
         return Ok(());
     }
