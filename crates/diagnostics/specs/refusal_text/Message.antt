@@ -9,7 +9,7 @@ use Rattle.litmus_parse.specs.declared.answer.Reason.TheVariants as reasons
 use Rattle.diagnostics.specs.refusal_text.Before.{word_before}
 use Rattle.diagnostics.specs.refusal_text.Excerpt.{excerpt}
 use Rattle.diagnostics.specs.refusal_text.Expected.{expected_text}
-use Rattle.check_notes.specs.Notes.{note_of}
+use Rattle.diagnostics.specs.refusal_text.FormNotes.{note_line}
 use Rattle.program_table.specs.text_pieces.Shown.{shown}
 use Rattle.diagnostics.specs.refusal_text.Token.{IsTokenAt}
 use Rattle.diagnostics.specs.refusal_text.Words.{behind, excess_words, fault_words, more_than, unread_words}
@@ -52,7 +52,7 @@ expected_of (reasons.Unsupported unread expected) = expected_text expected
 unfoldable pub refusal_text : (name text : List ℕ) → (at : ℕ) → Reason → (token : List ℕ) → List ℕ
 refusal_text name text at reasons.OutOfMemory token = []
 refusal_text name text at reason token = concat
-    (heading name text at reason token ∷ excerpt text at ∷ expected_of reason ∷ note_of reason token (word_before text at) (drop at text) ∷ [])
+    (heading name text at reason token ∷ excerpt text at ∷ expected_of reason ∷ note_line reason token (word_before text at) (drop at text) ∷ [])
 
 -- what is said of a text that is refused at a place, in a file of this name
 pub record IsRefusalText (name text : List ℕ) (at : ℕ) (reason : Reason) (said : List ℕ) : Type 0 where

@@ -7,9 +7,9 @@ ghost use Rattle.diagnostics.specs.refusal_text.Message.{IsRefusalText};
 use crate::refusal_text::before::word_before;
 use crate::refusal_text::excerpt::excerpt;
 use crate::refusal_text::expected::expected_text;
+use crate::refusal_text::form_note::note_line;
 use crate::refusal_text::reason::{behind, excess_words, fault_words, more_than, unread_words};
 use crate::refusal_text::token::token_at;
-use check_notes::note_of;
 use litmus_lex::{column_of, line_of};
 use litmus_parse::{Reason, Refused};
 use program_table::text_pieces::{joined, number, shown};
@@ -104,13 +104,13 @@ fn with_token(
     let marked = excerpt(alloc, text, refused.at)?;
     let wanted = expected_of(alloc, refused.reason)?;
     let rest = &text[refused.at..];
-    let note = note_of(refused.reason, token, word_before(text, refused.at), rest);
+    let note = note_line(refused.reason, token, word_before(text, refused.at), rest);
     joined(alloc, &[&first, &marked, &wanted, note.as_bytes()])
 }
 
 /// What is said of a text that is refused, in a file of this name: where, how and why; the line of the place with a
-/// mark under it; what would stand there; and what to write in its place or why it isn't read, where C or the kernel's
-/// format have it. Nothing where memory is refused.
+/// mark under it; what would stand there; and what to write in its place or why it isn't read, or else the form that is
+/// read there. Nothing where memory is refused.
 pub fn refusal_text(
     alloc: Global,
     name: &[u8],
