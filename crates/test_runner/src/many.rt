@@ -1,23 +1,13 @@
 //! Many runs, of which each is made once.
 
-ghost use Rattle.std.specs.Prelude.{◌≡◌, length};
-ghost use Rattle.litmus_syntax.specs.Limits.{KeepsLimits};
-ghost use Rattle.litmus_syntax.specs.Views.{program_of};
-
 use crate::runs::{
-    MANY, Meeting, RACE, THOUSAND, TWO_STUCK, Unseen, has, parsed, ran_often, seen_of, settings,
-    wait,
+    Meeting, RACE, THOUSAND, TWO_STUCK, Unseen, has, parsed, ran_often, settings, wait,
 };
 use crate::same::same;
-use litmus_parse::Program;
-use litmus_step::{Prepared, Settings};
+use litmus_step::Prepared;
 use run_stats::{Hooks, Progress, Times, run_text_with};
-use runner::{Gate, HookPoint, NoStall, Open, RunError, RunIndex, RunResult, Stall, run_batch};
-use std::alloc::Global;
-use std::process::Abort;
-use std::sync::Wait;
+use runner::{Gate, HookPoint, NoStall, Open, RunError, RunIndex, Stall, run_batch};
 use std::sync::atomic::{AtomicU64, Ordering};
-use std::thread::Threads;
 use trace_replay::{Accepted, replay};
 
 /// One plain read, which is watched, beside 200 marked reads of something else, which aren't.
@@ -304,57 +294,26 @@ fn turn(number: u64, first: usize) -> RunIndex {
 fn a_batch_makes_each_of_its_runs(rt: HostRuntime) {
     let alloc = rt.alloc();
     let program = parsed(&rt, alloc, RACE);
-    let strict = settings(alloc, true, MANY);
-    let meetings = [Meeting::new(), Meeting::new(), Meeting::new()];
+    let strict = settings(alloc, true, 1_000_000_000);
+    let prepared = Prepared::new(alloc, &program, &strict).expect(&rt, "a program that can run");
     let turns = [turn(7, 1), turn(8, 0), turn(9, 1)];
-    let all = batch(&rt, alloc, &program, &strict, &turns, &meetings, &meetings);
-    drop(strict);
-    drop(program);
+    let meetings = [Meeting::new(), Meeting::new(), Meeting::new()];
+    let all = run_batch(
+        &rt, alloc, &program, &strict, &prepared, &turns, &meetings, &meetings,
+    )
+    .expect(&rt, "a batch");
     same(&rt, all.len(), 3);
     let mut number = 7;
-    for ran in &all {
-        found_once(&rt, alloc, ran, number);
+    for ran in all {
+        let ran = ran.expect(&rt, "a run");
+        same(&rt, ran.number(), number);
+        same(&rt, ran.reports().len(), 1);
+        same(&rt, ran.counters().two_sided, 1);
         number = number.saturating_add(1);
     }
-    drop(all);
     for meeting in &meetings {
         same(&rt, meeting.ran_out.load(Ordering::SeqCst), 0);
     }
-}
-
-/// In the run of this number of a batch the race is found once.
-fn found_once<R: Abort>(rt: &R, alloc: Global, ran: &Result<RunResult, RunError>, number: u64) {
-    match ran {
-        Ok(ran) => {
-            let ran = seen_of(rt, alloc, ran);
-            same(rt, ran.number, number);
-            same(rt, ran.reports, 1);
-            same(rt, ran.two_sided, 1);
-        }
-        Err(_) => assert!(rt; false, "a run"),
-    }
-}
-
-/// A batch of a program.
-fn batch<R: Threads + Wait + Sync + Abort, S: Stall, G: Gate>(
-    rt: &R,
-    alloc: Global,
-    program: &Program,
-    settings: &Settings,
-    turns: &[RunIndex],
-    stalls: &[S],
-    gates: &[G],
-) -> Vec<Result<RunResult, RunError>>
-    requires limits { KeepsLimits (program_of program.now) }
-    requires stalls { length stalls.now ≡ length turns.now }
-    requires gates { length gates.now ≡ length turns.now }
-{
-    let prepared = Prepared::new(alloc, program, settings).expect(rt, "a program that can run");
-    let all = run_batch(
-        rt, alloc, program, settings, &prepared, turns, stalls, gates,
-    );
-    drop(prepared);
-    all.expect(rt, "a batch")
 }
 
 /// A stuck run is one of its own: the threads go on with the next.
@@ -363,17 +322,18 @@ fn a_batch_goes_on_behind_a_stuck_run(rt: HostRuntime) {
     let alloc = rt.alloc();
     let program = parsed(&rt, alloc, TWO_STUCK);
     let settings = settings(alloc, false, 3);
+    let prepared = Prepared::new(alloc, &program, &settings).expect(&rt, "a program that can run");
     let turns = [turn(0, 0), turn(1, 2)];
     let stalls = [NoStall, NoStall];
     let gates = [Open, Open];
-    let all = batch(&rt, alloc, &program, &settings, &turns, &stalls, &gates);
-    drop(settings);
-    drop(program);
+    let all = run_batch(
+        &rt, alloc, &program, &settings, &prepared, &turns, &stalls, &gates,
+    )
+    .expect(&rt, "a batch");
     same(&rt, all.len(), 2);
-    for ran in &all {
-        assert!(rt; matches!(ran, Err(RunError::Stuck { task: 1 })));
+    for ran in all {
+        same(&rt, ran.err(), Some(RunError::Stuck { task: 1 }));
     }
-    drop(all);
 }
 
 /// Runs in batches of many sizes, without a delay and with one: all are counted, and with a delay some find the race.

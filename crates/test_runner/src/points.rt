@@ -1,8 +1,8 @@
 //! What a run calls on the way of its tasks, and when.
 
-use crate::runs::{MANY, RACE, seen, wait};
+use crate::runs::{RACE, parsed, settings, wait};
 use crate::same::same;
-use runner::{Gate, HookPoint, NoStall, Stall};
+use runner::{Gate, HookPoint, NoStall, Stall, run_once};
 use std::sync::atomic::{AtomicU64, Ordering};
 
 /// At which place among the calls of a task each call came last; 0 where it didn't.
@@ -137,9 +137,12 @@ impl Gate for InTurn {
 
 #[test]
 fn hooks_come_in_their_order(rt: HostRuntime) {
+    let alloc = rt.alloc();
+    let program = parsed(&rt, alloc, RACE);
+    let strict = settings(alloc, true, 1_000_000_000);
     let crossing = Crossing::new();
-    let ran = seen(&rt, rt.alloc(), RACE, true, MANY, &crossing, &crossing).expect(&rt, "a run");
-    same(&rt, ran.reports, 1);
+    let ran = run_once(&rt, alloc, &program, &strict, &crossing, &crossing).expect(&rt, "a run");
+    same(&rt, ran.reports().len(), 1);
     same(&rt, crossing.reader.all(), [1, 2, 3, 0, 4, 5]);
     same(&rt, crossing.writer.all(), [1, 0, 0, 2, 3, 4]);
     same(&rt, crossing.ran_out.load(Ordering::SeqCst), 0);
@@ -147,11 +150,22 @@ fn hooks_come_in_their_order(rt: HostRuntime) {
 
 #[test]
 fn begins_and_ends_stand_beside_their_steps(rt: HostRuntime) {
+    let alloc = rt.alloc();
+    let program = parsed(&rt, alloc, RACE);
+    let strict = settings(alloc, true, 1_000_000_000);
     let in_turn = InTurn {
         crossing: Crossing::new(),
     };
-    let ran = seen(&rt, rt.alloc(), RACE, true, MANY, &NoStall, &in_turn).expect(&rt, "a run");
-    same(&rt, ran.accesses, 2);
-    same(&rt, ran.stamps, [0, 1, 2, 3]);
+    let ran = run_once(&rt, alloc, &program, &strict, &NoStall, &in_turn).expect(&rt, "a run");
+    let accesses = ran.accesses(alloc).expect(&rt, "memory");
+    let [one, other] = accesses.as_slice() else {
+        assert!(rt; false, "two accesses");
+        return;
+    };
+    same(
+        &rt,
+        [one.begin(), one.end(), other.begin(), other.end()],
+        [0, 1, 2, 3],
+    );
     same(&rt, in_turn.crossing.ran_out.load(Ordering::SeqCst), 0);
 }

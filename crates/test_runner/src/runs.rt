@@ -29,9 +29,6 @@ const HOLD: u32 = 100_000_000;
 /// How often the same program is run.
 const RUNS: u32 = 10;
 
-/// More failed tries than any wait has here that comes to its end.
-pub(crate) const MANY: u64 = 1_000_000_000;
-
 pub(crate) const RACE: &str =
     "C race\n\n{}\n\nP0(int *x)\n{\n\tint r0;\n\n\tr0 = *x;\n}\n\nP1(int *x)\n{\n\t*x = 1;\n}\n\nexists (0:r0=1)\n";
 
@@ -92,90 +89,12 @@ fn push_sixteen(text: &mut String, statement: &str) -> Result<(), AllocError> {
     text.push_str("exists (true)\n")
 }
 
-/// What tests look at of a run.
-#[derive(Clone, Copy)]
-pub(crate) struct SeenRun {
-    pub(crate) number: u64,
-    pub(crate) arms: u64,
-    pub(crate) taken: u64,
-    pub(crate) two_sided: u64,
-    pub(crate) quiet: u64,
-    pub(crate) capacity: u64,
-    pub(crate) reports: usize,
-    pub(crate) tasks: usize,
-    pub(crate) accesses: usize,
-    /// Where the accesses begin and end, if there are two.
-    pub(crate) stamps: [u64; 4],
-    /// The first cell.
-    pub(crate) cell: Option<u64>,
-    /// The first register of all tasks, where they hold the same.
-    pub(crate) register: Option<u64>,
-}
-
-/// What is seen of a run of the program of a text, once.
-pub(crate) fn seen<R: Threads + Wait + Sync + Abort, S: Stall, G: Gate>(
-    rt: &R,
-    alloc: Global,
-    text: &str,
-    strict: bool,
-    turns: u64,
-    stall: &S,
-    gate: &G,
-) -> Result<SeenRun, RunError> {
-    let program = parsed(rt, alloc, text);
-    let settings = settings(alloc, strict, turns);
-    let ran = run_once(rt, alloc, &program, &settings, stall, gate);
-    // By calls: where they go out of scope, the proof follows the drop of all that is in them.
-    drop(settings);
-    drop(program);
-    match ran {
-        Ok(ran) => Ok(seen_at_last(rt, alloc, ran)),
-        Err(error) => Err(error),
+/// The first register of a task at the end.
+fn register(ran: &RunResult, task: usize) -> Option<u64> {
+    if task < ran.tasks() {
+        return ran.registers(task).first().copied();
     }
-}
-
-/// What is seen of a run, which is dropped.
-pub(crate) fn seen_at_last<R: Abort>(rt: &R, alloc: Global, ran: RunResult) -> SeenRun {
-    let seen = seen_of(rt, alloc, &ran);
-    drop(ran);
-    seen
-}
-
-/// What is seen of a run.
-pub(crate) fn seen_of<R: Abort>(rt: &R, alloc: Global, ran: &RunResult) -> SeenRun {
-    let counters = ran.counters();
-    let accesses = ran.accesses(alloc).expect(rt, "memory");
-    SeenRun {
-        number: ran.number(),
-        arms: counters.arms,
-        taken: counters.taken,
-        two_sided: counters.two_sided,
-        quiet: counters.quiet,
-        capacity: counters.capacity,
-        reports: ran.reports().len(),
-        tasks: ran.tasks(),
-        accesses: accesses.len(),
-        stamps: match accesses.as_slice() {
-            [one, other] => [one.begin(), one.end(), other.begin(), other.end()],
-            _ => [0; 4],
-        },
-        cell: ran.memory().first().copied(),
-        register: register(ran),
-    }
-}
-
-/// The first register of all tasks at the end, where they hold the same.
-fn register(ran: &RunResult) -> Option<u64> {
-    if ran.tasks() == 0 {
-        return None;
-    }
-    let first = ran.registers(0).first().copied();
-    for task in 0..ran.tasks() {
-        if ran.registers(task).first().copied() != first {
-            return None;
-        }
-    }
-    first
+    None
 }
 
 /// Waits until this has come about so often, and answers whether it has.
@@ -312,78 +231,85 @@ impl Stall for Counted {
 
 #[test]
 fn stall_holds_until_told(rt: HostRuntime) {
+    let alloc = rt.alloc();
+    let program = parsed(&rt, alloc, RACE);
     let meeting = Meeting::new();
-    let ran = seen(&rt, rt.alloc(), RACE, true, MANY, &meeting, &meeting).expect(&rt, "a run");
-    same(&rt, (ran.arms, ran.taken, ran.two_sided), (1, 1, 1));
-    same(&rt, ran.reports, 1);
+    let strict = settings(alloc, true, 1_000_000_000);
+    let ran = run_once(&rt, alloc, &program, &strict, &meeting, &meeting).expect(&rt, "a run");
+    let counters = ran.counters();
+    same(
+        &rt,
+        (counters.arms, counters.taken, counters.two_sided),
+        (1, 1, 1),
+    );
+    same(&rt, ran.reports().len(), 1);
     same(&rt, meeting.ran_out.load(Ordering::SeqCst), 0);
 }
 
 #[test]
 fn all_begin(rt: HostRuntime) {
-    let text = sixteen(&rt, rt.alloc(), "r0 = READ_ONCE(*x);");
+    let alloc = rt.alloc();
+    let text = sixteen(&rt, alloc, "r0 = READ_ONCE(*x);");
+    let program = parsed(&rt, alloc, text.as_str());
     let start = Start {
         there: AtomicU64::new(0),
         ran_out: AtomicU64::new(0),
     };
-    let ran = seen(&rt, rt.alloc(), &text, false, MANY, &NoStall, &start).expect(&rt, "a run");
-    same(&rt, ran.tasks, 16);
+    let settings = settings(alloc, false, 1_000_000_000);
+    let ran = run_once(&rt, alloc, &program, &settings, &NoStall, &start).expect(&rt, "a run");
+    same(&rt, ran.tasks(), 16);
     same(&rt, start.there.load(Ordering::SeqCst), 16);
     same(&rt, start.ran_out.load(Ordering::SeqCst), 0);
 }
 
 #[test]
 fn own_write_read(rt: HostRuntime) {
+    let alloc = rt.alloc();
+    let program = parsed(&rt, alloc, OWN_WRITE_READ);
+    let settings = settings(alloc, false, 1000);
     for _ in 0..RUNS {
-        let ran = seen(
-            &rt,
-            rt.alloc(),
-            OWN_WRITE_READ,
-            false,
-            1000,
-            &NoStall,
-            &Open,
-        )
-        .expect(&rt, "a run");
-        same(&rt, ran.register, Some(7));
-        same(&rt, ran.arms, 0);
+        let ran = run_once(&rt, alloc, &program, &settings, &NoStall, &Open).expect(&rt, "a run");
+        same(&rt, register(&ran, 0), Some(7));
+        same(&rt, ran.counters().arms, 0);
     }
 }
 
 #[test]
 fn locked_increments(rt: HostRuntime) {
+    let alloc = rt.alloc();
+    let program = parsed(&rt, alloc, LOCKED_INCREMENTS);
+    let settings = settings(alloc, false, 1_000_000_000);
     for _ in 0..RUNS {
-        let ran = seen(
-            &rt,
-            rt.alloc(),
-            LOCKED_INCREMENTS,
-            false,
-            MANY,
-            &NoStall,
-            &Open,
-        )
-        .expect(&rt, "a run");
-        same(&rt, ran.cell, Some(2));
-        same(&rt, (ran.arms, ran.quiet), (2, 2));
+        let ran = run_once(&rt, alloc, &program, &settings, &NoStall, &Open).expect(&rt, "a run");
+        same(&rt, ran.memory().first().copied(), Some(2));
+        let counters = ran.counters();
+        same(&rt, (counters.arms, counters.quiet), (2, 2));
     }
 }
 
 #[test]
 fn full_slots_sixteen(rt: HostRuntime) {
-    let text = sixteen(&rt, rt.alloc(), "");
+    let alloc = rt.alloc();
+    let text = sixteen(&rt, alloc, "");
+    let program = parsed(&rt, alloc, text.as_str());
+    let settings = settings(alloc, false, 1_000_000_000);
     for _ in 0..RUNS {
-        let ran = seen(&rt, rt.alloc(), &text, false, MANY, &NoStall, &Open).expect(&rt, "a run");
-        same(&rt, ran.arms, ran.quiet);
-        same(&rt, ran.arms.saturating_add(ran.capacity), 16);
-        same(&rt, ran.accesses, 16);
-        same(&rt, ran.reports, 0);
+        let ran = run_once(&rt, alloc, &program, &settings, &NoStall, &Open).expect(&rt, "a run");
+        let counters = ran.counters();
+        same(&rt, counters.arms, counters.quiet);
+        same(&rt, counters.arms.saturating_add(counters.capacity), 16);
+        same(&rt, ran.accesses(alloc).expect(&rt, "memory").len(), 16);
+        assert!(rt; ran.reports().is_empty());
     }
 }
 
 #[test]
 fn the_smallest_stuck_task_is_named(rt: HostRuntime) {
+    let alloc = rt.alloc();
+    let program = parsed(&rt, alloc, TWO_STUCK);
+    let settings = settings(alloc, false, 3);
     for _ in 0..RUNS {
-        let refused = seen(&rt, rt.alloc(), TWO_STUCK, false, 3, &NoStall, &Open).err();
+        let refused = run_once(&rt, alloc, &program, &settings, &NoStall, &Open).err();
         same(&rt, refused, Some(RunError::Stuck { task: 1 }));
     }
 }
@@ -391,33 +317,30 @@ fn the_smallest_stuck_task_is_named(rt: HostRuntime) {
 /// A task of this program gets stuck where the lock isn't free at its first try. In these runs it is.
 #[test]
 fn no_task_is_stuck_without_a_failed_try(rt: HostRuntime) {
+    let alloc = rt.alloc();
+    let program = parsed(&rt, alloc, LOCKED);
+    let settings = settings(alloc, false, 1);
     for _ in 0..RUNS {
         let behind = Behind {
             over: AtomicU64::new(0),
             ran_out: AtomicU64::new(0),
         };
-        let ran = seen(&rt, rt.alloc(), LOCKED, false, 1, &behind, &behind).expect(&rt, "a run");
-        same(&rt, ran.tasks, 2);
+        let ran = run_once(&rt, alloc, &program, &settings, &behind, &behind).expect(&rt, "a run");
+        same(&rt, ran.tasks(), 2);
         same(&rt, behind.ran_out.load(Ordering::SeqCst), 0);
     }
 }
 
 #[test]
 fn each_arming_stalls_once(rt: HostRuntime) {
+    let alloc = rt.alloc();
+    let program = parsed(&rt, alloc, LOCKED_INCREMENTS);
+    let settings = settings(alloc, false, 1_000_000_000);
     let counted = Counted {
         stalls: AtomicU64::new(0),
     };
-    let ran = seen(
-        &rt,
-        rt.alloc(),
-        LOCKED_INCREMENTS,
-        false,
-        MANY,
-        &counted,
-        &Open,
-    )
-    .expect(&rt, "a run");
-    same(&rt, ran.arms, 2);
+    let ran = run_once(&rt, alloc, &program, &settings, &counted, &Open).expect(&rt, "a run");
+    same(&rt, ran.counters().arms, 2);
     same(&rt, counted.stalls.load(Ordering::SeqCst), 2);
 }
 
@@ -448,36 +371,21 @@ fn any_task_may_start_first(rt: HostRuntime) {
         alloc,
         "r0 = READ_ONCE(*x); WRITE_ONCE(*x, 7); r0 = READ_ONCE(*x);",
     );
-    let program = parsed(&rt, alloc, &text);
-    let settings = settings(alloc, false, MANY);
-    starts(&rt, alloc, &program, &settings);
-    drop(settings);
-    drop(program);
-}
-
-/// Each of sixteen tasks in turn starts first; behind them the first does again.
-fn starts<R: Threads + Wait + Sync + Abort>(
-    rt: &R,
-    alloc: Global,
-    program: &Program,
-    settings: &Settings,
-)
-    requires { KeepsLimits (program_of program.now) }
-{
-    let prepared = Prepared::new(alloc, program, settings).expect(rt, "a program that can run");
+    let program = parsed(&rt, alloc, text.as_str());
+    let settings = settings(alloc, false, 1_000_000_000);
+    let prepared = Prepared::new(alloc, &program, &settings).expect(&rt, "a program that can run");
     for first in 0..18 {
         let turn = RunIndex { number: 5, first };
         let ran = run_prepared(
-            rt, alloc, program, settings, &prepared, turn, &NoStall, &Open,
+            &rt, alloc, &program, &settings, &prepared, turn, &NoStall, &Open,
         )
-        .expect(rt, "a run");
-        let ran = seen_at_last(rt, alloc, ran);
-        same(rt, ran.tasks, 16);
-        same(rt, ran.register, Some(7));
-        same(rt, ran.accesses, 48);
-        same(rt, ran.number, 5);
+        .expect(&rt, "a run");
+        for task in 0..16 {
+            same(&rt, register(&ran, task), Some(7));
+        }
+        same(&rt, ran.accesses(alloc).expect(&rt, "memory").len(), 48);
+        same(&rt, ran.number(), 5);
     }
-    drop(prepared);
 }
 
 /// The program of a text, so often run.
