@@ -37,7 +37,8 @@ _kcsan_litmus() {
     step) options="--schedule -s --where --trace -o --color $settings" ;;
     run) options="--runs -r --delay --jobs --stop-at-first --keep-going --where --trace -o --color $settings" ;;
     search)
-      options="--switches --part --limit --seconds --jobs --format --settings --where --trace -o --color $settings"
+      options="--switches --reduce --part --limit --seconds --jobs --format --settings --where --trace -o"
+      options="$options --color $settings"
       formats="text json csv herd"
       ;;
     join) options="--where --settings --color" ;;
@@ -58,7 +59,7 @@ _kcsan_litmus() {
     --word) _kcsan_litmus_words "64 32" ;;
     --color) _kcsan_litmus_words "auto always never" ;;
     --switches) _kcsan_litmus_words all ;;
-    --value-change-only | --plain-writes-atomic | --unknown-origin) _kcsan_litmus_words "yes no" ;;
+    --value-change-only | --plain-writes-atomic | --unknown-origin | --reduce) _kcsan_litmus_words "yes no" ;;
     --kconfig) _kcsan_litmus_files '*.config' '*config-*' ;;
     --trace | --svg | --html | -o) _kcsan_litmus_files '*' ;;
     @) _kcsan_litmus_list ;;

@@ -36,6 +36,7 @@ complete -c kcsan_litmus -n "$seen run" -l keep-going -d 'Count stuck runs, and 
 complete -c kcsan_litmus -n "$seen run search races" -l jobs -x -d 'Number of parallel threads'
 
 complete -c kcsan_litmus -n "$seen search" -l switches -xa all -d 'Preemptions at most'
+complete -c kcsan_litmus -n "$seen search" -l reduce -xa 'yes no' -d 'Leave out states that tell nothing more'
 complete -c kcsan_litmus -n "$seen search" -l part -x -d 'Search part I of N alone, as 1/16'
 complete -c kcsan_litmus -n "$seen search races" -l limit -x -d 'Stop after so many states'
 complete -c kcsan_litmus -n "$seen search races" -l seconds -x -d 'Stop after so many seconds'

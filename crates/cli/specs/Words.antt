@@ -129,15 +129,16 @@ run_app names =
     (flag_rule (codes "keep-going"))) names
 
 -- `search`, with its files, how what is found is printed, whether the settings are, how many preemptions a schedule has at
--- most, which part is searched, after how many schedules or states and after how many seconds a search stops, how many
+-- most, whether steps may be left out, which part is searched, after how many schedules or states and after how many seconds a search stops, how many
 -- threads share the work, and those options; what `--switches` and `--part` take is said below
 unfoldable pub search_app : Names → App
 search_app names =
-    with_options (with_rule (with_rule (with_rule (with_rule (with_rule (with_rule (with_rule (with_rule (new_app (codes "search"))
+    with_options (with_rule (with_rule (with_rule (with_rule (with_rule (with_rule (with_rule (with_rule (with_rule (new_app (codes "search"))
     (some_words_rule (codes "FILE")))
     (free_name_rule (codes "format") names.search_formats))
     (flag_rule (codes "settings")))
     (default_rule (codes "switches") (codes "2")))
+    (free_name_rule (codes "reduce") names.choices))
     (text_rule (codes "part")))
     (number_rule (codes "limit") 1 1000000000 (codes "1000000")))
     (free_number_rule (codes "seconds") 1 1000000))
@@ -381,6 +382,7 @@ pub record AskSearch (values : List Row) (request : SearchRequest) : Type 0 wher
   pub switches : AskSwitches values request.switches
   pub limit : IsNumber values (codes "limit") request.limit
   pub seconds : IsNumberIfGiven values (codes "seconds") request.seconds
+  pub reduces : request.reduces ≡ choice_of (first_of (codes "reduce") values) false
   pub jobs : IsNumber values (codes "jobs") request.jobs
   pub format : AskFormat values search_formats.Text
   pub settings_line : IsFlag values (codes "settings") request.settings
@@ -392,6 +394,7 @@ pub record AskSearches (values : List Row) (request : SearchesRequest) : Type 0 
   pub switches : AskSwitches values request.switches
   pub limit : IsNumber values (codes "limit") request.limit
   pub seconds : IsNumberIfGiven values (codes "seconds") request.seconds
+  pub reduces : request.reduces ≡ choice_of (first_of (codes "reduce") values) false
   pub jobs : IsNumber values (codes "jobs") request.jobs
   pub format : AskFormat values request.format
   pub settings_line : IsFlag values (codes "settings") request.settings

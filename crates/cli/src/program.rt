@@ -97,7 +97,7 @@ static RUN_ENTRIES: [Entry; 7] = [
 ];
 
 /// The files and the options of `search` alone.
-static SEARCH_ENTRIES: [Entry; 10] = [
+static SEARCH_ENTRIES: [Entry; 11] = [
     Entry::Words("FILE", Words::Several, help::FILES),
     Entry::Heading(OUTPUT),
     Entry::Value(
@@ -110,6 +110,7 @@ static SEARCH_ENTRIES: [Entry; 10] = [
     Entry::Flag("settings", help::SETTINGS),
     Entry::Heading(SEARCH),
     Entry::Value("switches", None, Text("N"), Some("2"), help::SWITCHES),
+    Entry::Value("reduce", None, Name(NameList::Choices), None, help::REDUCE),
     Entry::Value("part", None, Text("I/N"), None, help::PART),
     Entry::Value("limit", None, Number(LIMIT), Some("1000000"), help::LIMIT),
     Entry::Value("seconds", None, Number(SECONDS), None, help::SECONDS),

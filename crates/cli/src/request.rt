@@ -115,6 +115,8 @@ pub struct SearchRequest<'a> {
     pub limit: u64,
     /// After how many seconds it stops, if these are bounded.
     pub seconds: Option<u64>,
+    /// Whether a search of all schedules may leave steps out that others make up for.
+    pub reduces: bool,
     /// How many threads share several files. This one is searched by one thread, whatever this is.
     pub jobs: u64,
     /// Whether the settings are printed.
@@ -154,6 +156,8 @@ pub struct SearchesRequest<'a> {
     pub limit: u64,
     /// After how many seconds it stops, if these are bounded.
     pub seconds: Option<u64>,
+    /// Whether a search of all schedules may leave steps out that others make up for.
+    pub reduces: bool,
     /// How many threads share the files, where there are several.
     pub jobs: u64,
     /// How what is found is printed.
@@ -605,6 +609,7 @@ fn search_request<'a>(file: &'a str, search: &ArgMatches<'a>) -> Option<Request<
         switches: switches_asked(search)?,
         limit: number(search, "limit", LIMIT)?,
         seconds: number_if_given(search, "seconds", SECONDS)?,
+        reduces: choice(search.get_str("reduce")),
         jobs: number(search, "jobs", JOBS)?,
         settings: search.get_flag("settings"),
         options: options(search)?,
@@ -636,6 +641,7 @@ fn searches_request<'a>(
         switches: switches_asked(search)?,
         limit: number(search, "limit", LIMIT)?,
         seconds: number_if_given(search, "seconds", SECONDS)?,
+        reduces: choice(search.get_str("reduce")),
         jobs: number(search, "jobs", JOBS)?,
         format,
         settings: search.get_flag("settings"),

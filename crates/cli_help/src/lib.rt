@@ -542,6 +542,15 @@ pub const SWITCHES: Help = Help {
         0 to 64, or all for no bound",
 };
 
+/// What `--reduce` says.
+pub const REDUCE: Help = Help {
+    brief: "Leaves out states that tell nothing more [yes]",
+    full: "\
+        Whether a search with --switches all leaves out steps that others\n\
+        make up for: yes. With no it visits all states; what it finds of\n\
+        reports, final states and deadlocks is the same",
+};
+
 /// What `--part` says.
 pub const PART: Help = Help {
     brief: "Searches part I of N alone, for 'join'",

@@ -52,6 +52,7 @@ search_wanted request = record {
   preemptions = preemptions_of request.switches;
   limit = request.limit;
   seconds = request.seconds;
+  reduces = request.reduces;
   format = search_format_of request.format;
   unknown_origin = request.options.unknown_origin;
 }

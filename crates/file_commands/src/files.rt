@@ -436,6 +436,7 @@ fn search_wanted(request: &SearchesRequest<'_>) -> FileWanted
         preemptions: preemptions(request.switches),
         limit: request.limit,
         seconds: request.seconds,
+        reduces: request.reduces,
         format: search_format(request.format),
         unknown_origin: request.options.unknown_origin,
     }

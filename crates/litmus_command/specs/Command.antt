@@ -147,6 +147,7 @@ all_wanted_of request = record {
   limit = request.limit;
   seconds = request.seconds;
   traced = is_some request.options.trace;
+  reduces = request.reduces;
   unknown_origin = request.options.unknown_origin;
 }
 

@@ -34,6 +34,7 @@ fn all_wanted_for(request: &SearchRequest<'_>) -> AllWanted
         limit: request.limit,
         seconds: request.seconds,
         traced: request.options.trace.is_some(),
+        reduces: request.reduces,
         unknown_origin: request.options.unknown_origin,
     }
 }

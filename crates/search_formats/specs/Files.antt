@@ -54,6 +54,7 @@ wanted_of_all wanted = record {
   limit = wanted.limit;
   seconds = wanted.seconds;
   traced = false;
+  reduces = wanted.reduces;
   unknown_origin = wanted.unknown_origin;
 }
 

@@ -26,6 +26,8 @@ pub struct FileWanted {
     pub limit: u64,
     /// After how many seconds it stops, if these are bounded.
     pub seconds: Option<u64>,
+    /// Whether a search of all schedules may leave steps out that others make up for.
+    pub reduces: bool,
     pub format: Format,
     /// Whether reports of unknown origin are printed.
     pub unknown_origin: bool,

@@ -1,9 +1,9 @@
 -- each value is that of its option
-use Rattle.std.proofs.Common.{codes, refl}
+use Rattle.std.proofs.Common.{◌∙◌, ap, codes, false, refl, sym}
 use Rattle.clap.specs.Words.{found_of, rows_of}
-use Rattle.cli.proofs.ValueLemmas.{flag_read, none_holds, not_missing}
+use Rattle.cli.proofs.ValueLemmas.{flag_read, none_holds, not_missing, text_read}
 use Rattle.cli.specs.Bounds.{MayBeAsked}
-use Rattle.cli.specs.Words.{IsAskedBy}
+use Rattle.cli.specs.Words.{IsAskedBy, choice_of}
 use Rattle.cli.proofs.request.search_request.Goals as goal
 
 pub returns : goal.returns
@@ -24,6 +24,8 @@ returns c = record {
       switches = c.in_ok-switches_asked.ensures.asked;
       limit = c.in_ok-number.ensures.asked;
       seconds = c.in_ok-number_if_given.ensures.asked;
+      reduces = c.choice.ensures
+          ∙ ap (λ word. choice_of word false) (sym (text_read (found_of c.args.search.now) (codes "reduce") c.get_str.result c.get_str.ensures));
       jobs = c.in_ok-number-2.ensures.asked;
       format = c.requires.format;
       settings_line = flag_read (found_of c.args.search.now) (codes "settings") c.get_flag.result c.get_flag.ensures.none c.get_flag.ensures.value
