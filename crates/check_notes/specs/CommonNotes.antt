@@ -1,14 +1,6 @@
 -- Lines that more than one refusal ends with.
 use Rattle.std.specs.Prelude.{ℕ, List, codes}
 
--- no `return`, `goto` or `break`
-unfoldable pub jump_note : List ℕ
-jump_note = codes "note: no jump is read: write an `if` round what it would skip\n"
-
--- where nothing is computed
-unfoldable pub number_note : List ℕ
-number_note = codes "note: write the number itself, as 0x1\n"
-
 -- a variable without `*` and `&`
 unfoldable pub name_note : List ℕ
 name_note = codes "note: write the name alone, as in `spin_lock(l)`, and `p_f` for a field `&p->f`; for `**p` write `r0 = *p; if (r0) r1 = *b;`\n"
@@ -17,15 +9,10 @@ name_note = codes "note: write the name alone, as in `spin_lock(l)`, and `p_f` f
 unfoldable pub star_note : List ℕ
 star_note = codes "note: `*` stands before the variable, as in `int *x` and `READ_ONCE(*x)`\n"
 
--- a wait ends
-unfoldable pub wait_note : List ℕ
-wait_note =
-    codes "note: a wait has a number of tries: `ok = 0; for (i = 0; i < 3; i++) if (!ok) { r0 = READ_ONCE(*x); ok = r0 == 1; }` waits for 1, with `ok = (r0 & 1) == 0;` for bit 0 to be 0; `if (ok) { .. }` stands round what follows, and `exists` asks `1:ok=1 /\\ ..` of P1\n"
-
 -- a loop ends
 unfoldable pub turns_note : List ℕ
 turns_note =
-    codes "note: a loop has a number of turns: `ok = 0; for (i = 0; i < 3; i++) if (!ok) { r0 = *x; ok = r0 == 1; }` ends once `r0` is 1; `if (ok) { .. }` stands round what follows, and `exists` asks `1:ok=1 /\\ ..` of P1\n"
+    codes "note: a loop has a number of turns: `ok = 0; for (n = 0; n < 3; n++) if (!ok) { old = *x; ok = old == 1; }` ends once `old` is 1, and a turn that ends by `while (!try_cmpxchg(x, &old, 2))` has `was = cmpxchg(x, old, 2); ok = was == old; old = was;` there; `if (ok) { .. }` stands round what follows, and `exists` asks `1:ok=1 /\\ ..` of P1, and `forall` `1:ok=0 \\/ ..`\n"
 
 -- that `~` is what says that something isn't so
 unfoldable pub tilde_note : List ℕ
@@ -34,20 +21,15 @@ tilde_note = codes "note: in the condition `~` stands before what isn't so, as `
 -- a structure has no place before the processes
 unfoldable pub structure_note : List ℕ
 structure_note =
-    codes "note: the first `{` begins the initialization block, with no `;` behind it: leave the structure out, and write a variable for each field, as `P0(int *msg_f, int *msg_g)`\n"
+    codes "note: the first `{` begins the initialization block, with no `;` behind it: leave a structure out, and write a variable for each field, as `P0(int *msg_f, int *msg_g)`, and one `int *m` for all bit-fields of a word; leave an `enum` out, and write each constant as its number\n"
 
 -- a field has no name of its own here
 unfoldable pub field_note : List ℕ
-field_note = codes "note: a field is a variable of its own: for `p->f` write `*p_f`, and for `&p->f` `p_f`, of an `int *p_f`; where `p` was loaded, with 1 for `&b`, write `if (p == 1) r0 = *b_f;`\n"
+field_note = codes "note: a field is a variable of its own, of an `int *p_f`: for `p->f` write `*p_f`, with `(*p_f)++;` for `p->f++;`, and for `&p->f` `p_f`; the bit-fields of a word are one variable together, and a write of one reads and writes all of it, as `*p_f += 4;` sets a bit 2 that is 0, and never `*p_f = 1;`; where `p` was loaded, with 1 for `&b`, write `if (p == 1) r0 = *b_f;`\n"
 
 -- an element has no name of its own here
 unfoldable pub element_note : List ℕ
-element_note = codes "note: there are no arrays: each element is a variable of its own, as `*x0` of an `int *x0`\n"
-
--- a lock that is one bit of a word
-unfoldable pub bit_lock_note : List ℕ
-bit_lock_note =
-    codes "note: a lock in bit 0 of an `int`: `ok = 0; for (i = 0; i < 3; i++) if (!ok) { r0 = READ_ONCE(*x); r1 = cmpxchg(x, r0, r0 | 1); ok = (r1 == r0) & !(r0 & 1); }` takes it where `ok` is 1, with `if (ok) { .. }` round what follows; the same with `r0 & ~1` and `ok = r1 == r0;` gives it back, and `READ_ONCE(*x) & 1` asks for it\n"
+element_note = codes "note: there are no arrays: each element is a variable of its own, as `*x0` of an `int *x0`; for `x[i] = 2;` write `if (i == 0) *x0 = 2; if (i == 1) *x1 = 2;`\n"
 
 -- a pointer is a number
 unfoldable pub pointer_note : List ℕ
@@ -71,17 +53,13 @@ unfoldable pub compared_note : List ℕ
 compared_note =
     codes "note: in the condition `=` alone compares, as `x=1`; for another comparison keep it in a register, as `r1 = r0 > 1;`\n"
 
--- what a sequence count is
-unfoldable pub sequence_note : List ℕ
-sequence_note = codes "note: a sequence count is an `int *seq`; a sequence lock is one and a `spinlock_t *l`\n"
-
 -- words that change nothing here
 unfoldable pub const_note : List ℕ
-const_note = codes "note: leave out `const`, `static` and `__rcu`\n"
+const_note = codes "note: leave out `const`, `static`, `restrict`, `__rcu`, `__user` and `__percpu`\n"
 
 -- how one is added
 unfoldable pub increase_note : List ℕ
-increase_note = codes "note: write `(*x)++;` or `r0 = r0 + 1;` as a statement of its own, and for `r0 = (*x)++;` write `r0 = *x; *x = r0 + 1;`\n"
+increase_note = codes "note: write `(*x)++;` or `r0 = r0 + 1;` as a statement of its own, and for `r0 = (*x)++;`, one access in C, the two of `r0 = *x; *x = r0 + 1;`; for `*p++ = 1;` write `*x0 = 1;`, with a variable for each element\n"
 
 -- a variable of the condition has no `*`
 unfoldable pub bare_note : List ℕ
@@ -89,9 +67,4 @@ bare_note = codes "note: in the condition a variable stands without `*`, as `x=1
 
 -- where the initialization block begins
 unfoldable pub block_note : List ℕ
-block_note = codes "note: this is the initialization block, which begins at the first `{`: write `{ }` before `P0`\n"
-
--- the calls that an atomic variable has
-unfoldable pub atomic_note : List ℕ
-atomic_note =
-    codes "note: an `atomic_t` has atomic_read, atomic_set, atomic_add, atomic_inc and atomic_dec; other changes are `cmpxchg` of an `int` in each task\n"
+block_note = codes "note: this is the initialization block, which begins at the first `{`: write `{ }` before `P0`; a function before it isn't read: write its statements in the processes\n"

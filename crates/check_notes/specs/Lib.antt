@@ -1,5 +1,5 @@
-pub mod CallNotes
 pub mod CommonNotes
 pub mod Notes
 pub mod SyntaxNotes
+pub mod Tables
 pub mod Words

@@ -1,9 +1,11 @@
 -- The last line of a message: what to write in the place of what C or the kernel's format have, or why it isn't read.
 use Rattle.std.specs.Prelude.{◌&&◌, ◌||◌, ◌==◌, ℕ, Bool, List, [], ◌∷◌, bytes_eq, codes, false, if◌then◌else◌, length, not, true}
-use Rattle.check_notes.specs.CallNotes.{call_why}
-use Rattle.check_notes.specs.CommonNotes.{bit_lock_note, block_note, name_note, pointer_note, star_note, turns_note, value_note, wait_note}
+use Rattle.call_notes.specs.CallNotes.{call_note}
+use Rattle.call_notes.specs.SharedLines.{bit_lock_note, wait_note}
+use Rattle.check_notes.specs.CommonNotes.{block_note, name_note, pointer_note, star_note, structure_note, turns_note, value_note}
 use Rattle.check_notes.specs.SyntaxNotes.{behind_token, fault_note, is_part, part_note}
-use Rattle.check_notes.specs.Words.{begins, is_constant}
+use Rattle.check_notes.specs.Tables.{loop_line, structure_line}
+use Rattle.check_notes.specs.Words.{begins, ends_structure, is_constant, without_signs}
 use Rattle.litmus_lex.specs.declared.reason.Expected.{Expected}
 use Rattle.litmus_lex.specs.declared.reason.Expected.TheVariants as places
 use Rattle.litmus_lex.specs.declared.reason.Unread.{Unread}
@@ -14,13 +16,18 @@ use Rattle.litmus_parse.specs.declared.answer.Reason.TheVariants as reasons
 -- the line that says why a part of a text isn't read that the kernel's format has
 unfoldable pub section_why : List ℕ → List ℕ
 section_why name =
-    if begins name (codes "locations") then codes "note: it changes nothing here: leave it out\n" else codes "note: no run is left out here: leave it out\n"
+    if begins name (codes "locations") then codes "note: it changes nothing here: leave it out\n" else codes "note: no run is left out here: for `filter (F) exists (C)` write `exists ((F) /\\ (C))`, and for `filter (F) forall (C)` `forall (~(F) \\/ (C))`\n"
 
--- a loop that waits, as for a bit that it sets, or that has a turn before it asks whether it ends
+-- a loop that asks for this before each turn
+unfoldable pub while_note : List ℕ → List ℕ
+while_note asked =
+    if begins asked (codes "test_and_set_bit") then bit_lock_note
+    else loop_line asked wait_note
+
+-- the line on a loop that begins with this word
 unfoldable pub loop_why : (word rest : List ℕ) → List ℕ
 loop_why word rest =
-    if begins rest (codes "while (test_and_set_bit") || begins rest (codes "while(test_and_set_bit") then bit_lock_note
-    else if bytes_eq word (codes "while") then wait_note
+    if bytes_eq word (codes "while") then while_note (without_signs (behind_token word rest))
     else if bytes_eq word (codes "do") then turns_note
     else []
 
@@ -36,38 +43,36 @@ form_why expected token =
     if bytes_eq token (codes ";") then turns_note
     else head_why expected
 
--- a structure of C: a mutex, or one with fields
+-- the line on a structure of C
 unfoldable pub structure_why : List ℕ → List ℕ
-structure_why rest =
-    if begins rest (codes "struct mutex")
-    then codes "note: a mutex is a `spinlock_t`, with `spin_lock` and `spin_unlock`\n"
-    else codes "note: each field is a variable of its own, as `int *m_f` for `m->f`; a pointer is a number, 1 for `&m` and 0 for NULL: `int *p` for a parameter `struct msg **p`, and `int p` as an item or a register\n"
+structure_why rest = structure_line rest
+    (codes "note: each field is a variable of its own, as `int *m_f` for `m->f`, and the bit-fields of a word are one together; a pointer is a number, 1 for `&m` and 0 for NULL: `int *p` for a parameter `struct msg **p`, and `int p` as an item or a register\n")
 
 -- a word of C
 unfoldable pub word_why : List ℕ → List ℕ → List ℕ
 word_why word rest =
-    if bytes_eq word (codes "unsigned") then codes "note: each type has a sign: char, short, int and long\n"
+    if bytes_eq word (codes "unsigned") then codes "note: each type has a sign: char, short, int and long; of an unsigned char compare `(READ_ONCE(*f) & 0xff) == 0x80`, and of an unsigned int `(r0 & 0xffffffff) > 5`\n"
     else if bytes_eq word (codes "struct") then structure_why rest
-    else if bytes_eq word (codes "volatile") then codes "note: an access is marked itself, as `READ_ONCE(*x)`\n"
+    else if bytes_eq word (codes "volatile") then codes "note: an access is marked itself, as `READ_ONCE(*x)`: leave `volatile` out, and `asm volatile` with its parentheses\n"
     else []
 
 -- the line on a division of C
 unfoldable pub division_why : List ℕ → List ℕ
 division_why sign =
     if bytes_eq sign (codes "/")
-    then codes "note: of a register from 0 to 5, as `r0 = *x;` loads, `r0 / 2` is `(r0 >= 2) + (r0 >= 4)`; of two numbers write the result\n"
+    then codes "note: of a register from 0 to 5, as `r0 = *x;` loads, `r0 / 2` is `((r0 >= 2) + (r0 >= 4))`; of two numbers write the result\n"
     else if bytes_eq sign (codes "%")
-    then codes "note: of a register, as `r0 = *x;` loads, `r0 % 4` is `r0 & 3` where it isn't negative, and `r0 % 3` is `r0 - 3 * (r0 >= 3)` from 0 to 5\n"
+    then codes "note: of a register, as `r0 = *x;` loads, `r0 % 4` is `(r0 & 3)` where it isn't negative, and `r0 % 3` is `(r0 - 3 * (r0 >= 3))` from 0 to 5\n"
     else []
 
 -- an operator of C
 unfoldable pub operator_why : List ℕ → List ℕ
 operator_why sign =
-    if bytes_eq sign (codes "&&") then codes "note: comparisons are joined by `&`, as `(r0 == 1) & (r1 == 2)`; where the right side loads, write `ok = r0 == 1; if (ok) ok = *y == 2; if (ok) ..`\n"
-    else if bytes_eq sign (codes "||") then codes "note: comparisons are joined by `|`, as `(r0 == 1) | (r1 == 2)`; where the right side loads, write `ok = r0 == 1; if (!ok) ok = *y == 2; if (ok) ..`\n"
+    if bytes_eq sign (codes "&&") then codes "note: comparisons are joined by `&`, as `(r0 == 1) & (r1 == 2)`, with `(r0 != 0)` for `r0`; where the right side loads, write `ok = r0 == 1; if (ok) ok = *y == 2; if (ok) ..`\n"
+    else if bytes_eq sign (codes "||") then codes "note: comparisons are joined by `|`, as `(r0 == 1) | (r1 == 2)`, with `(r0 != 0)` for `r0`; where the right side loads, write `ok = r0 == 1; if (!ok) ok = *y == 2; if (ok) ..`\n"
     else if bytes_eq sign (codes "?") then codes "note: write `if (r0) r1 = 1; else r1 = 2;`\n"
-    else if bytes_eq sign (codes "<<") then codes "note: write `r0 * 4` for `r0 << 2`, and the number itself for `1 << 2`\n"
-    else if bytes_eq sign (codes ">>") then codes "note: a bit is tested by `r0 & 4`, and `(r0 >> 2) & 1` is `(r0 & 4) != 0`; of a register from 0 to 7, as `r0 = *x;` loads, `r0 >> 2` is `r0 >= 4`\n"
+    else if bytes_eq sign (codes "<<") then codes "note: write `(r0 * 4)` for `r0 << 2`, and the number itself for `1 << 2`\n"
+    else if bytes_eq sign (codes ">>") then codes "note: a bit is tested by `r0 & 4`, and `(r0 >> 2) & 1` is `((r0 & 4) != 0)`; of a register from 0 to 7, as `r0 = *x;` loads, `r0 >> 2` is `(r0 >= 4)`; for `(r0 & 0xf0) >> 4 == 2` write `(r0 & 0xf0) == 0x20`\n"
     else division_why sign
 
 -- an address where this is expected
@@ -84,7 +89,7 @@ unfoldable pub type_why : Expected → List ℕ
 type_why places.IntegerVariable =
     codes "note: an `atomic_t` is accessed by calls, as `atomic_read(f)` and `atomic_add(1, f)`; a lock that is tried is an `int` in each task\n"
 type_why places.AtomicVariable =
-    codes "note: an atomic variable is an `atomic_t *f`; an `int` has READ_ONCE(*f), WRITE_ONCE(*f, 1), xchg(f, 1) and cmpxchg(f, 0, 1)\n"
+    codes "note: an atomic variable is an `atomic_t *f`; an `int` has READ_ONCE(*f), WRITE_ONCE(*f, 1), xchg(f, 1) and cmpxchg(f, 0, 1), and for atomic_inc `ok = 0; for (n = 0; n < 3; n++) if (!ok) { old = READ_ONCE(*f); was = cmpxchg(f, old, old + 1); ok = was == old; }`; `if (ok) { .. }` stands round what follows, and `exists` asks `1:ok=1 /\\ ..` of P1, and `forall` `1:ok=0 \\/ ..`\n"
 type_why places.LockVariable =
     codes "note: a lock is a `spinlock_t *l`; one that is tried is an `int`, taken in each task by `r0 = cmpxchg(l, 0, 1);` where `r0` is 0\n"
 type_why places.MemoryVariable = codes "note: a lock has no bytes: write a variable of another type\n"
@@ -121,13 +126,13 @@ name_why name behind =
 
 -- the line that says why this isn't read, where the kernel's format or C has it
 unfoldable pub why : Unread → Expected → (token before rest : List ℕ) → List ℕ
-why unreads.Call expected token before rest = call_why token
+why unreads.Call expected token before rest = call_note token
 why unreads.Section expected token before rest = section_why token
 why unreads.Loop expected token before rest = loop_why token rest
 why unreads.Type expected token before rest = word_why token rest
 why unreads.Operator expected token before rest = operator_why token
 why unreads.Address expected token before rest = address_why expected
-why unreads.Load expected token before rest = codes "note: load into a register first, as `r0 = *x;`\n"
+why unreads.Load expected token before rest = codes "note: load into a register first, as `r0 = *x;`; for `*x = *y = 1;` write `*y = 1; *x = 1;`\n"
 why unreads.OtherType expected token before rest = type_why expected
 why unreads.Pointer expected token before rest = pointer_why expected before rest
 why unreads.Label expected token before rest = codes "note: a process gives it a value, as `r0 = 1;`\n"
@@ -154,9 +159,23 @@ is_at_token (reasons.Syntax fault expected) = true
 is_at_token (reasons.Unsupported unread expected) = true
 is_at_token reason = false
 
+-- a token stands in the initialization block, where this is expected
+unfoldable pub is_in_block : Expected → Bool
+is_in_block places.Variable = true
+is_in_block places.ItemEnd = true
+is_in_block places.Value = true
+is_in_block expected = false
+
+-- what is expected where a token is refused is expected in the initialization block
+unfoldable pub is_of_block : Reason → Bool
+is_of_block (reasons.Syntax fault expected) = is_in_block expected
+is_of_block (reasons.Unsupported unread expected) = is_in_block expected
+is_of_block reason = false
+
 -- the last line of what is said of a text that is refused where this token stands, behind this word in its line; the
 -- text goes on with these bytes from the token on
 unfoldable pub note_of : Reason → (token before rest : List ℕ) → List ℕ
 note_of reason token before rest =
-    if is_at_token reason && is_part (behind_token token rest) then part_note (behind_token token rest)
+    if is_of_block reason && ends_structure rest then structure_note
+    else if is_at_token reason && is_part (behind_token token rest) then part_note (behind_token token rest)
     else reason_note reason token before rest

@@ -1,8 +1,10 @@
 -- What to write in the place of a token that isn't of this format.
 use Rattle.std.specs.Prelude.{◌&&◌, ◌||◌, ℕ, Bool, List, [], ◌∷◌, bytes_eq, codes, drop, if◌then◌else◌, length, not}
-use Rattle.check_notes.specs.CommonNotes.{bare_note, block_note, compared_note, const_note, element_note, field_note, implied_note, increase_note, join_note, jump_note, name_note, number_note, sequence_note}
+use Rattle.call_notes.specs.SharedLines.{jump_note, number_note}
+use Rattle.check_notes.specs.CommonNotes.{bare_note, block_note, compared_note, const_note, element_note, field_note, implied_note, increase_note, join_note, name_note}
 use Rattle.check_notes.specs.CommonNotes.{star_note, structure_note, tilde_note}
-use Rattle.check_notes.specs.Words.{begins, has_eight_bytes, has_four_bytes, has_one_byte, has_two_bytes, is_atomic_type, is_constant, is_jump, is_lock_type, is_number, is_operator, is_qualifier, is_sequence_type, is_suffix, is_type}
+use Rattle.check_notes.specs.Tables.{type_line}
+use Rattle.check_notes.specs.Words.{begins, is_constant, is_jump, is_number, is_operator, is_qualifier, is_suffix}
 use Rattle.litmus_lex.specs.declared.reason.Expected.{Expected}
 use Rattle.litmus_lex.specs.declared.reason.Expected.TheVariants as places
 use Rattle.litmus_lex.specs.declared.reason.Fault.{Fault}
@@ -14,17 +16,10 @@ use Rattle.litmus_lex.specs.declared.sign.Sign.TheVariants as signs
 unfoldable pub behind_token : (token rest : List ℕ) → List ℕ
 behind_token token rest = drop (length token) rest
 
--- which type is read in the place of one of these, or how a parameter is written
+-- which type is read in the place of this word, or how a parameter is written
 unfoldable pub type_note : List ℕ → List ℕ
-type_note word =
-    if has_one_byte word then codes "note: the type of 1 byte is `char`, with a sign\n"
-    else if has_two_bytes word then codes "note: the type of 2 bytes is `short`, with a sign\n"
-    else if has_four_bytes word then codes "note: the type of 4 bytes is `int`, with a sign\n"
-    else if has_eight_bytes word then codes "note: the type of 8 bytes is `long`, with a sign\n"
-    else if is_lock_type word then codes "note: a lock is a `spinlock_t`\n"
-    else if is_sequence_type word then sequence_note
-    else if is_atomic_type word then codes "note: an atomic variable is an `atomic_t`, of 4 bytes\n"
-    else codes "note: a parameter is a type and a name behind `*`, as `int *x`, and a structure one for each field, as `int *m_f`\n"
+type_note word = type_line word
+    (codes "note: a parameter is a type and a name behind `*`, as `int *x`, and a structure one for each field, as `int *m_f`\n")
 
 -- a word or an operator that joins conditions in C
 unfoldable pub joins : List ℕ → Bool
@@ -47,7 +42,7 @@ behind_number token rest =
     else if implies rest then implied_note
     else if is_operator token then number_note
     else if is_suffix token then codes "note: a number has no suffix\n"
-    else if bytes_eq token (codes ",") then codes "note: `;` stands between, as in `int x = 1; int y = 2;`\n"
+    else if bytes_eq token (codes ",") then codes "note: `;` stands between two items, as in `int x = 1; int y = 2;`, and `/\\` between two atoms of the condition\n"
     else if bytes_eq token (codes ":")
     then codes "note: a register is compared with a number alone: for two of P0 write `eq = r0 == r1;` there and `0:eq=1` here; for those of two processes write each case, as `0:r0=1 /\\ 1:r0=1`\n"
     else if begins token (codes "b")
@@ -58,7 +53,7 @@ behind_number token rest =
 unfoldable pub register_note : List ℕ → List ℕ → List ℕ
 register_note token rest =
     if bytes_eq token (codes ":")
-    then codes "note: no label is read: leave it out; what `goto` would repeat is a loop, as `ok = 0; for (i = 0; i < 3; i++) if (!ok) { r0 = *x; ok = r0 == 1; }`, with `if (ok) { .. }` round what follows\n"
+    then codes "note: no label is read: leave it out; what `goto` would repeat is a loop, as `ok = 0; for (n = 0; n < 3; n++) if (!ok) { old = *x; ok = old == 1; }`, with `if (ok) { .. }` round what follows\n"
     else if bytes_eq token (codes "*") && not (begins rest (codes "*="))
     then codes "note: a register is declared as `int r0`, also for a pointer, which is a number\n"
     else if begins rest (codes "->") then field_note
@@ -75,9 +70,10 @@ unfoldable pub statement_note : List ℕ → List ℕ → List ℕ
 statement_note token rest =
     if begins rest (codes "->") then field_note
     else if bytes_eq token (codes "-") then codes "note: for `-=` and `--` write `*x += -1`\n"
-    else if bytes_eq token (codes ",") then codes "note: a declaration gives one value: `int r0 = 1; int r1 = 2;`\n"
+    else if bytes_eq token (codes ",") then codes "note: `;` stands between two statements, and a declaration gives one value: `int r0 = *x; int r1 = *y;`\n"
+    else if bytes_eq token (codes "=") then codes "note: an assignment has no value: for `a = b = 1;` write `b = 1; a = 1;`\n"
     else if is_operator token
-    then codes "note: with an operator there is `+=` alone, which is one access as `|=` is; `r0 = *x | 4; *x = r0;` is two, as are `r0 = *x & ~4; *x = r0;` and the same with `^` and `*`\n"
+    then codes "note: with an operator there is `+=` alone, one access that reads and writes, as `|=` and `&=` are: `*x += 4;` sets a bit that is 0, and `*x += -4;` clears one that is 1; `val = *x | 4; *x = val;` is two accesses, as is the same with `& ~4`, `^ 4` and `* 4`\n"
     else []
 
 -- behind `(*x)`
@@ -119,6 +115,7 @@ unfoldable pub closing_note : List ℕ → List ℕ → List ℕ → List ℕ
 closing_note token before rest =
     if begins rest (codes "->") then arrow_note before
     else if is_operator token then operand_note before
+    else if bytes_eq token (codes ",") then codes "note: no `,` joins two values, and a call has no more arguments: for `r0 = (READ_ONCE(*x), 3);` write `READ_ONCE(*x); r0 = 3;`\n"
     else joined_note token rest
 
 -- what to write where this sign is expected
@@ -151,7 +148,8 @@ parameter_note token =
 -- a word that C has before a function
 unfoldable pub is_before_function : List ℕ → Bool
 is_before_function token = bytes_eq token (codes "static") || bytes_eq token (codes "void")
-    || bytes_eq token (codes "int")
+    || bytes_eq token (codes "int") || bytes_eq token (codes "typedef") || bytes_eq token (codes "noinline")
+    || bytes_eq token (codes "__no_kcsan")
 
 -- a word or a sign that would deny what comes
 unfoldable pub denies : List ℕ → Bool
@@ -161,7 +159,9 @@ denies token = bytes_eq token (codes "never") || bytes_eq token (codes "not") ||
 unfoldable pub process_note : List ℕ → List ℕ
 process_note token =
     if is_before_function token
-    then codes "note: no word stands before `P0`, and statements of another function stand in the processes themselves\n"
+    then codes "note: no word stands before `P0`: a variable is an item in the `{ }` and a parameter of each process, and statements of another function stand in the processes themselves; a process with `__no_kcsan` begins by `kcsan_disable_current();` and ends by `kcsan_enable_current();`\n"
+    else if begins token (codes "DEFINE_")
+    then codes "note: a variable is an item in the `{ }`: `spinlock_t l;` for a lock, `int seq;` for a sequence count, both for a seqlock, and `int cnt0; int cnt1;` for a variable of each CPU\n"
     else if denies token then codes "note: that it never comes is asked by `~exists (0:r0=1)`\n"
     else if bytes_eq token (codes ";")
     then codes "note: no `;` stands behind a process\n"
@@ -170,15 +170,15 @@ process_note token =
     then codes "note: processes are P0, P1 and so on, in this order and without a gap\n"
     else []
 
--- a structure of C ends before this token, or behind it
-unfoldable pub ends_structure : (token rest : List ℕ) → Bool
-ends_structure token rest = bytes_eq token (codes ";") || bytes_eq token (codes "{")
-    || begins (behind_token token rest) (codes ";")
+-- a structure of C ended before this token, or behind it, or an `enum` begins
+unfoldable pub ended_structure : (token rest : List ℕ) → Bool
+ended_structure token rest = bytes_eq token (codes ";") || bytes_eq token (codes "{")
+    || bytes_eq token (codes "enum") || begins (behind_token token rest) (codes ";")
 
 -- in the place of the first process
 unfoldable pub first_process_note : (token rest : List ℕ) → List ℕ
 first_process_note token rest =
-    if ends_structure token rest then structure_note
+    if ended_structure token rest then structure_note
     else process_note token
 
 -- in the place of a proposition
@@ -193,10 +193,12 @@ unfoldable pub is_read_type : List ℕ → Bool
 is_read_type token = bytes_eq token (codes "int") || bytes_eq token (codes "long") || bytes_eq token (codes "char")
     || bytes_eq token (codes "short")
 
--- in the place of an expression: a field, or a cast
+-- in the place of an expression: a field, its end, or a cast
 unfoldable pub expression_note : List ℕ → List ℕ
 expression_note token =
     if bytes_eq token (codes ">") then field_note
+    else if bytes_eq token (codes ";") || bytes_eq token (codes ")")
+    then codes "note: an operand is missing: for `r1 = r0--;` write `r1 = r0; r0 = r0 - 1;`, and for `r1 = (*x)--;` `r1 = *x; *x = r1 - 1;`\n"
     else if is_read_type token then codes "note: no cast is read: leave it out\n"
     else []
 
@@ -204,11 +206,11 @@ expression_note token =
 unfoldable pub item_end_note : (token before : List ℕ) → List ℕ
 item_end_note token before =
     if bytes_eq token (codes "(") && is_constant before
-    then codes "note: an item is a type and a name: `spinlock_t l;` for a lock, `int seq;` for a sequence count, both for a seqlock, and `int f;` for bits\n"
+    then codes "note: an item is a type and a name: `spinlock_t l;` for a lock, `int seq;` for a sequence count, both for a seqlock, `int f;` for bits, and `int done;` for a completion\n"
     else if bytes_eq token (codes "(") then block_note
     else if bytes_eq token (codes ",") then codes "note: each variable is an item of its own, as `int x; int y;`\n"
     else if bytes_eq token (codes ":")
-    then codes "note: bits of a word have no names: to set bit 1 of an `int *x`, as C does it, is `r0 = *x; *x = r0 | 2;`, and `*x & 2` reads it\n"
+    then codes "note: the bit-fields of a word are one `int *x` together: a write of one reads and writes all of it, as `*x += 2;` sets a bit 1 that is 0 and `*x += -2;` clears one that is 1, and never `*x = 1;`; `(*x & 2) != 0` reads it\n"
     else codes "note: this is the initialization block, from the first `{`: an item is `int x;` or `int x = 1;`; leave out one of another type than char, short, int, long, atomic_t and spinlock_t, or write it as an `int`\n"
 
 -- in the place of an item
@@ -222,25 +224,34 @@ unfoldable pub initial_note : List ℕ → List ℕ
 initial_note token =
     if bytes_eq token (codes "*") then block_note
     else if bytes_eq token (codes "(") then number_note
+    else if bytes_eq token (codes "{") then codes "note: leave the braces out, as in `atomic_t f = 0;`\n"
     else []
 
 -- in the place of a statement
-unfoldable pub statement_place_note : List ℕ → List ℕ
-statement_place_note token =
+unfoldable pub statement_place_note : (token rest : List ℕ) → List ℕ
+statement_place_note token rest =
     if bytes_eq token (codes "{") then codes "note: a block stands behind `if (..)`, `else` or `for (..)` alone\n"
+    else if begins rest (codes "--") then codes "note: for `--r0;` write `r0 = r0 - 1;`, and for `--*x;` `*x += -1;`\n"
+    else []
+
+-- behind a register of a declaration
+unfoldable pub declaration_note : List ℕ → List ℕ
+declaration_note token =
+    if bytes_eq token (codes "=") then codes "note: of several registers none is given a value: write `int n; int r0 = -1;`\n"
     else []
 
 -- what to write where this is expected
 unfoldable pub place_note : Expected → (token before rest : List ℕ) → List ℕ
 place_note places.Number token before rest =
-    codes "note: write the number itself, as 0x1, and 1 for a pointer `&b` and 0 for NULL; two values are compared in a process, as `r2 = r0 == r1;`\n"
+    codes "note: write the number itself, as 0x1, and 1 for a pointer `&b` and 0 for NULL; two values are compared in a process, as `r2 = r0 == r1;`, or case by case, as `x=0 /\\ y=0 \\/ x=1 /\\ y=1`\n"
 place_note places.Type token before rest = parameter_note token
 place_note places.Expression token before rest = expression_note token
 place_note places.ItemEnd token before rest = item_end_note token before
 place_note places.ParameterEnd token before rest = codes "note: `,` stands between two parameters, as `int *x, int *y`\n"
 place_note places.Variable token before rest = item_note token
 place_note places.Value token before rest = initial_note token
-place_note places.Statement token before rest = statement_place_note token
+place_note places.Statement token before rest = statement_place_note token rest
+place_note places.DeclarationEnd token before rest = declaration_note token
 place_note places.Head token before rest =
     codes "note: the text begins with `C` and a name, as `C t`, and nothing but comments `(* .. *)` stands before them\n"
 place_note places.Process token before rest = first_process_note token rest
@@ -259,22 +270,43 @@ place_note expected token before rest = []
 unfoldable pub is_truth : List ℕ → Bool
 is_truth token = bytes_eq token (codes "true") || bytes_eq token (codes "false")
 
+-- a jump of C, behind this word
+unfoldable pub jumped_note : List ℕ → List ℕ
+jumped_note before =
+    if bytes_eq before (codes "break")
+    then codes "note: no jump is read: a loop ends sooner as `ok = 0; for (n = 0; n < 3; n++) if (!ok) { old = *x; ok = old == 1; }`, with `if (!ok) { .. }` round what else a turn has\n"
+    else jump_note
+
+-- a jump of C, behind this word, where this is expected: in the initialization block it is of a function
+unfoldable pub jump_place_note : Expected → List ℕ → List ℕ
+jump_place_note places.ItemEnd before = block_note
+jump_place_note expected before = jumped_note before
+
+-- a `[` where this is expected
+unfoldable pub bracket_note : Expected → List ℕ
+bracket_note places.Variable = codes "note: an item has no brackets: write `x = 1;`\n"
+bracket_note expected = element_note
+
+-- what to write in the place of a token behind this word, which is no type of the kernel
+unfoldable pub other_token_note : Expected → (token before rest : List ℕ) → List ℕ
+other_token_note expected token before rest =
+    if is_number before then behind_number token rest
+    else if is_qualifier before then const_note
+    else if bytes_eq before (codes "enum")
+    then codes "note: write a constant of an `enum` as its number, and leave this out\n"
+    else if is_read_type before && is_read_type token
+    then codes "note: a type is one word: char, short, int or long, of 1, 2, 4 and 8 bytes, as `long` for `long long`\n"
+    else if bytes_eq token (codes "++") then increase_note
+    else if is_truth token then codes "note: write 1 for `true`, and 0 for `false`\n"
+    else if bytes_eq token (codes "[") then bracket_note expected
+    else place_note expected token before rest
+
 -- what to write in the place of a token behind this word, which the program takes for a register or a variable, or
 -- behind this number; the text goes on with these bytes from the token on
 unfoldable pub token_note : Expected → (token before rest : List ℕ) → List ℕ
 token_note expected token before rest =
-    if bytes_eq before (codes "break")
-    then codes "note: no jump is read: a loop ends sooner as `ok = 0; for (i = 0; i < 3; i++) if (!ok) { r0 = *x; ok = r0 == 1; }`, with `if (!ok) { .. }` round what else a turn has\n"
-    else if is_jump before then jump_note
-    else if is_type before then type_note before
-    else if is_number before then behind_number token rest
-    else if is_qualifier before then const_note
-    else if bytes_eq before (codes "enum") || bytes_eq before (codes "union")
-    then codes "note: write a constant of an `enum` as its number, and a field of a `union` as a variable, and leave this out\n"
-    else if bytes_eq token (codes "++") then increase_note
-    else if is_truth token then codes "note: write 1 for `true`, and 0 for `false`\n"
-    else if bytes_eq token (codes "[") then element_note
-    else place_note expected token before rest
+    if is_jump before then jump_place_note expected before
+    else type_line before (other_token_note expected token before rest)
 
 -- in the place of a variable that the process, or of one that the text, doesn't have
 unfoldable pub unknown_note : Expected → (token : List ℕ) → List ℕ

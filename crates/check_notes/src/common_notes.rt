@@ -3,22 +3,6 @@
 ghost use Rattle.std.specs.Prelude.{◌≡◌};
 ghost use Rattle.check_notes.specs.CommonNotes as spec;
 
-/// That nothing jumps.
-#[tactic(auto, unfolding(crate::specs::CommonNotes::jump_note))]
-pub(crate) fn jump_note() -> &'static str
-    ensures { result.now ≡ spec.jump_note }
-{
-    "note: no jump is read: write an `if` round what it would skip\n"
-}
-
-/// That nothing is computed.
-#[tactic(auto, unfolding(crate::specs::CommonNotes::number_note))]
-pub(crate) fn number_note() -> &'static str
-    ensures { result.now ≡ spec.number_note }
-{
-    "note: write the number itself, as 0x1\n"
-}
-
 /// That a variable stands without `*` and `&`.
 #[tactic(auto, unfolding(crate::specs::CommonNotes::name_note))]
 pub(crate) fn name_note() -> &'static str
@@ -35,20 +19,16 @@ pub(crate) fn star_note() -> &'static str
     "note: `*` stands before the variable, as in `int *x` and `READ_ONCE(*x)`\n"
 }
 
-/// A wait ends.
-#[tactic(auto, unfolding(crate::specs::CommonNotes::wait_note))]
-pub(crate) fn wait_note() -> &'static str
-    ensures { result.now ≡ spec.wait_note }
-{
-    "note: a wait has a number of tries: `ok = 0; for (i = 0; i < 3; i++) if (!ok) { r0 = READ_ONCE(*x); ok = r0 == 1; }` waits for 1, with `ok = (r0 & 1) == 0;` for bit 0 to be 0; `if (ok) { .. }` stands round what follows, and `exists` asks `1:ok=1 /\\ ..` of P1\n"
-}
+/// A loop ends.
+pub(crate) const TURNS: &str =
+    "note: a loop has a number of turns: `ok = 0; for (n = 0; n < 3; n++) if (!ok) { old = *x; ok = old == 1; }` ends once `old` is 1, and a turn that ends by `while (!try_cmpxchg(x, &old, 2))` has `was = cmpxchg(x, old, 2); ok = was == old; old = was;` there; `if (ok) { .. }` stands round what follows, and `exists` asks `1:ok=1 /\\ ..` of P1, and `forall` `1:ok=0 \\/ ..`\n";
 
 /// A loop ends.
 #[tactic(auto, unfolding(crate::specs::CommonNotes::turns_note))]
 pub(crate) fn turns_note() -> &'static str
     ensures { result.now ≡ spec.turns_note }
 {
-    "note: a loop has a number of turns: `ok = 0; for (i = 0; i < 3; i++) if (!ok) { r0 = *x; ok = r0 == 1; }` ends once `r0` is 1; `if (ok) { .. }` stands round what follows, and `exists` asks `1:ok=1 /\\ ..` of P1\n"
+    TURNS
 }
 
 /// That `~` is what says that something isn't so.
@@ -64,7 +44,7 @@ pub(crate) fn tilde_note() -> &'static str
 pub(crate) fn structure_note() -> &'static str
     ensures { result.now ≡ spec.structure_note }
 {
-    "note: the first `{` begins the initialization block, with no `;` behind it: leave the structure out, and write a variable for each field, as `P0(int *msg_f, int *msg_g)`\n"
+    "note: the first `{` begins the initialization block, with no `;` behind it: leave a structure out, and write a variable for each field, as `P0(int *msg_f, int *msg_g)`, and one `int *m` for all bit-fields of a word; leave an `enum` out, and write each constant as its number\n"
 }
 
 /// A field has no name of its own here.
@@ -72,7 +52,7 @@ pub(crate) fn structure_note() -> &'static str
 pub(crate) fn field_note() -> &'static str
     ensures { result.now ≡ spec.field_note }
 {
-    "note: a field is a variable of its own: for `p->f` write `*p_f`, and for `&p->f` `p_f`, of an `int *p_f`; where `p` was loaded, with 1 for `&b`, write `if (p == 1) r0 = *b_f;`\n"
+    "note: a field is a variable of its own, of an `int *p_f`: for `p->f` write `*p_f`, with `(*p_f)++;` for `p->f++;`, and for `&p->f` `p_f`; the bit-fields of a word are one variable together, and a write of one reads and writes all of it, as `*p_f += 4;` sets a bit 2 that is 0, and never `*p_f = 1;`; where `p` was loaded, with 1 for `&b`, write `if (p == 1) r0 = *b_f;`\n"
 }
 
 /// An element has no name of its own here.
@@ -80,15 +60,7 @@ pub(crate) fn field_note() -> &'static str
 pub(crate) fn element_note() -> &'static str
     ensures { result.now ≡ spec.element_note }
 {
-    "note: there are no arrays: each element is a variable of its own, as `*x0` of an `int *x0`\n"
-}
-
-/// A lock that is one bit of a word.
-#[tactic(auto, unfolding(crate::specs::CommonNotes::bit_lock_note))]
-pub(crate) fn bit_lock_note() -> &'static str
-    ensures { result.now ≡ spec.bit_lock_note }
-{
-    "note: a lock in bit 0 of an `int`: `ok = 0; for (i = 0; i < 3; i++) if (!ok) { r0 = READ_ONCE(*x); r1 = cmpxchg(x, r0, r0 | 1); ok = (r1 == r0) & !(r0 & 1); }` takes it where `ok` is 1, with `if (ok) { .. }` round what follows; the same with `r0 & ~1` and `ok = r1 == r0;` gives it back, and `READ_ONCE(*x) & 1` asks for it\n"
+    "note: there are no arrays: each element is a variable of its own, as `*x0` of an `int *x0`; for `x[i] = 2;` write `if (i == 0) *x0 = 2; if (i == 1) *x1 = 2;`\n"
 }
 
 /// A pointer is a number.
@@ -131,20 +103,12 @@ pub(crate) fn compared_note() -> &'static str
     "note: in the condition `=` alone compares, as `x=1`; for another comparison keep it in a register, as `r1 = r0 > 1;`\n"
 }
 
-/// What a sequence count is.
-#[tactic(auto, unfolding(crate::specs::CommonNotes::sequence_note))]
-pub(crate) fn sequence_note() -> &'static str
-    ensures { result.now ≡ spec.sequence_note }
-{
-    "note: a sequence count is an `int *seq`; a sequence lock is one and a `spinlock_t *l`\n"
-}
-
 /// Words that change nothing here.
 #[tactic(auto, unfolding(crate::specs::CommonNotes::const_note))]
 pub(crate) fn const_note() -> &'static str
     ensures { result.now ≡ spec.const_note }
 {
-    "note: leave out `const`, `static` and `__rcu`\n"
+    "note: leave out `const`, `static`, `restrict`, `__rcu`, `__user` and `__percpu`\n"
 }
 
 /// How one is added.
@@ -152,7 +116,7 @@ pub(crate) fn const_note() -> &'static str
 pub(crate) fn increase_note() -> &'static str
     ensures { result.now ≡ spec.increase_note }
 {
-    "note: write `(*x)++;` or `r0 = r0 + 1;` as a statement of its own, and for `r0 = (*x)++;` write `r0 = *x; *x = r0 + 1;`\n"
+    "note: write `(*x)++;` or `r0 = r0 + 1;` as a statement of its own, and for `r0 = (*x)++;`, one access in C, the two of `r0 = *x; *x = r0 + 1;`; for `*p++ = 1;` write `*x0 = 1;`, with a variable for each element\n"
 }
 
 /// A variable of the condition has no `*`.
@@ -168,13 +132,5 @@ pub(crate) fn bare_note() -> &'static str
 pub(crate) fn block_note() -> &'static str
     ensures { result.now ≡ spec.block_note }
 {
-    "note: this is the initialization block, which begins at the first `{`: write `{ }` before `P0`\n"
-}
-
-/// The calls that an atomic variable has.
-#[tactic(auto, unfolding(crate::specs::CommonNotes::atomic_note))]
-pub(crate) fn atomic_note() -> &'static str
-    ensures { result.now ≡ spec.atomic_note }
-{
-    "note: an `atomic_t` has atomic_read, atomic_set, atomic_add, atomic_inc and atomic_dec; other changes are `cmpxchg` of an `int` in each task\n"
+    "note: this is the initialization block, which begins at the first `{`: write `{ }` before `P0`; a function before it isn't read: write its statements in the processes\n"
 }

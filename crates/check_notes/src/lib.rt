@@ -1,10 +1,10 @@
 //! What to write in the place of what is refused in a litmus text.
 #![tactic(auto)]
 
-mod call_notes;
 mod common_notes;
 mod note;
 mod syntax_notes;
+mod tables;
 mod words;
 
 pub use note::note_of;

@@ -3,13 +3,13 @@
 ghost use Rattle.std.specs.Prelude.{◌≡◌};
 ghost use Rattle.check_notes.specs.Notes as spec;
 
-use crate::call_notes::call_why;
 use crate::common_notes::{
-    bit_lock_note, block_note, name_note, pointer_note, star_note, turns_note, value_note,
-    wait_note,
+    block_note, name_note, pointer_note, star_note, structure_note, turns_note, value_note,
 };
 use crate::syntax_notes::{behind_token, fault_note, is_part, part_note};
-use crate::words::is_constant;
+use crate::tables::{loop_line, structure_line};
+use crate::words::{ends_structure, is_constant, without_signs};
+use call_notes::{bit_lock_note, call_note, wait_note};
 use litmus_lex::{Expected, Sign, Unread};
 use litmus_parse::Reason;
 
@@ -21,20 +21,28 @@ fn section_why(name: &[u8]) -> &'static str
     if name.starts_with(b"locations") {
         "note: it changes nothing here: leave it out\n"
     } else {
-        "note: no run is left out here: leave it out\n"
+        "note: no run is left out here: for `filter (F) exists (C)` write `exists ((F) /\\ (C))`, and for `filter (F) forall (C)` `forall (~(F) \\/ (C))`\n"
     }
 }
 
-/// The line on a loop that waits, as for a bit that it sets, or that has a turn before it asks whether it ends.
+/// A loop that asks for this before each turn.
+#[tactic(auto, unfolding(crate::specs::Notes::while_note))]
+fn while_note(asked: &[u8]) -> &'static str
+    ensures { result.now ≡ spec.while_note asked.now }
+{
+    if asked.starts_with(b"test_and_set_bit") {
+        return bit_lock_note();
+    }
+    loop_line(asked, wait_note())
+}
+
+/// The line on a loop that begins with this word.
 #[tactic(auto, unfolding(crate::specs::Notes::loop_why))]
 fn loop_why(word: &[u8], rest: &[u8]) -> &'static str
     ensures { result.now ≡ spec.loop_why word.now rest.now }
 {
-    if rest.starts_with(b"while (test_and_set_bit") || rest.starts_with(b"while(test_and_set_bit") {
-        return bit_lock_note();
-    }
     if word == b"while".as_slice() {
-        return wait_note();
+        return while_note(without_signs(behind_token(word, rest)));
     }
     if word == b"do".as_slice() {
         return turns_note();
@@ -68,15 +76,15 @@ fn form_why(expected: Expected, token: &[u8]) -> &'static str
     head_why(expected)
 }
 
-/// A structure of C: a mutex, or one with fields.
+/// The line on a structure of C.
 #[tactic(auto, unfolding(crate::specs::Notes::structure_why))]
 fn structure_why(rest: &[u8]) -> &'static str
     ensures { result.now ≡ spec.structure_why rest.now }
 {
-    if rest.starts_with(b"struct mutex") {
-        return "note: a mutex is a `spinlock_t`, with `spin_lock` and `spin_unlock`\n";
-    }
-    "note: each field is a variable of its own, as `int *m_f` for `m->f`; a pointer is a number, 1 for `&m` and 0 for NULL: `int *p` for a parameter `struct msg **p`, and `int p` as an item or a register\n"
+    structure_line(
+        rest,
+        "note: each field is a variable of its own, as `int *m_f` for `m->f`, and the bit-fields of a word are one together; a pointer is a number, 1 for `&m` and 0 for NULL: `int *p` for a parameter `struct msg **p`, and `int p` as an item or a register\n",
+    )
 }
 
 /// A word of C.
@@ -85,13 +93,13 @@ fn word_why(word: &[u8], rest: &[u8]) -> &'static str
     ensures { result.now ≡ spec.word_why word.now rest.now }
 {
     if word == b"unsigned".as_slice() {
-        return "note: each type has a sign: char, short, int and long\n";
+        return "note: each type has a sign: char, short, int and long; of an unsigned char compare `(READ_ONCE(*f) & 0xff) == 0x80`, and of an unsigned int `(r0 & 0xffffffff) > 5`\n";
     }
     if word == b"struct".as_slice() {
         return structure_why(rest);
     }
     if word == b"volatile".as_slice() {
-        return "note: an access is marked itself, as `READ_ONCE(*x)`\n";
+        return "note: an access is marked itself, as `READ_ONCE(*x)`: leave `volatile` out, and `asm volatile` with its parentheses\n";
     }
     ""
 }
@@ -102,10 +110,10 @@ fn division_why(sign: &[u8]) -> &'static str
     ensures { result.now ≡ spec.division_why sign.now }
 {
     if sign == b"/".as_slice() {
-        return "note: of a register from 0 to 5, as `r0 = *x;` loads, `r0 / 2` is `(r0 >= 2) + (r0 >= 4)`; of two numbers write the result\n";
+        return "note: of a register from 0 to 5, as `r0 = *x;` loads, `r0 / 2` is `((r0 >= 2) + (r0 >= 4))`; of two numbers write the result\n";
     }
     if sign == b"%".as_slice() {
-        return "note: of a register, as `r0 = *x;` loads, `r0 % 4` is `r0 & 3` where it isn't negative, and `r0 % 3` is `r0 - 3 * (r0 >= 3)` from 0 to 5\n";
+        return "note: of a register, as `r0 = *x;` loads, `r0 % 4` is `(r0 & 3)` where it isn't negative, and `r0 % 3` is `(r0 - 3 * (r0 >= 3))` from 0 to 5\n";
     }
     ""
 }
@@ -116,19 +124,19 @@ fn operator_why(sign: &[u8]) -> &'static str
     ensures { result.now ≡ spec.operator_why sign.now }
 {
     if sign == b"&&".as_slice() {
-        return "note: comparisons are joined by `&`, as `(r0 == 1) & (r1 == 2)`; where the right side loads, write `ok = r0 == 1; if (ok) ok = *y == 2; if (ok) ..`\n";
+        return "note: comparisons are joined by `&`, as `(r0 == 1) & (r1 == 2)`, with `(r0 != 0)` for `r0`; where the right side loads, write `ok = r0 == 1; if (ok) ok = *y == 2; if (ok) ..`\n";
     }
     if sign == b"||".as_slice() {
-        return "note: comparisons are joined by `|`, as `(r0 == 1) | (r1 == 2)`; where the right side loads, write `ok = r0 == 1; if (!ok) ok = *y == 2; if (ok) ..`\n";
+        return "note: comparisons are joined by `|`, as `(r0 == 1) | (r1 == 2)`, with `(r0 != 0)` for `r0`; where the right side loads, write `ok = r0 == 1; if (!ok) ok = *y == 2; if (ok) ..`\n";
     }
     if sign == b"?".as_slice() {
         return "note: write `if (r0) r1 = 1; else r1 = 2;`\n";
     }
     if sign == b"<<".as_slice() {
-        return "note: write `r0 * 4` for `r0 << 2`, and the number itself for `1 << 2`\n";
+        return "note: write `(r0 * 4)` for `r0 << 2`, and the number itself for `1 << 2`\n";
     }
     if sign == b">>".as_slice() {
-        return "note: a bit is tested by `r0 & 4`, and `(r0 >> 2) & 1` is `(r0 & 4) != 0`; of a register from 0 to 7, as `r0 = *x;` loads, `r0 >> 2` is `r0 >= 4`\n";
+        return "note: a bit is tested by `r0 & 4`, and `(r0 >> 2) & 1` is `((r0 & 4) != 0)`; of a register from 0 to 7, as `r0 = *x;` loads, `r0 >> 2` is `(r0 >= 4)`; for `(r0 & 0xf0) >> 4 == 2` write `(r0 & 0xf0) == 0x20`\n";
     }
     division_why(sign)
 }
@@ -157,7 +165,7 @@ fn type_why(expected: Expected) -> &'static str
         Expected::IntegerVariable =>
             "note: an `atomic_t` is accessed by calls, as `atomic_read(f)` and `atomic_add(1, f)`; a lock that is tried is an `int` in each task\n",
         Expected::AtomicVariable =>
-            "note: an atomic variable is an `atomic_t *f`; an `int` has READ_ONCE(*f), WRITE_ONCE(*f, 1), xchg(f, 1) and cmpxchg(f, 0, 1)\n",
+            "note: an atomic variable is an `atomic_t *f`; an `int` has READ_ONCE(*f), WRITE_ONCE(*f, 1), xchg(f, 1) and cmpxchg(f, 0, 1), and for atomic_inc `ok = 0; for (n = 0; n < 3; n++) if (!ok) { old = READ_ONCE(*f); was = cmpxchg(f, old, old + 1); ok = was == old; }`; `if (ok) { .. }` stands round what follows, and `exists` asks `1:ok=1 /\\ ..` of P1, and `forall` `1:ok=0 \\/ ..`\n",
         Expected::LockVariable =>
             "note: a lock is a `spinlock_t *l`; one that is tried is an `int`, taken in each task by `r0 = cmpxchg(l, 0, 1);` where `r0` is 0\n",
         Expected::MemoryVariable => "note: a lock has no bytes: write a variable of another type\n",
@@ -224,13 +232,14 @@ fn why(unread: Unread, expected: Expected, token: &[u8], before: &[u8], rest: &[
     ensures { result.now ≡ spec.why unread expected token.now before.now rest.now }
 {
     match unread {
-        Unread::Call => call_why(token),
+        Unread::Call => call_note(token),
         Unread::Section => section_why(token),
         Unread::Loop => loop_why(token, rest),
         Unread::Type => word_why(token, rest),
         Unread::Operator => operator_why(token),
         Unread::Address => address_why(expected),
-        Unread::Load => "note: load into a register first, as `r0 = *x;`\n",
+        Unread::Load =>
+            "note: load into a register first, as `r0 = *x;`; for `*x = *y = 1;` write `*y = 1; *x = 1;`\n",
         Unread::OtherType => type_why(expected),
         Unread::Pointer => pointer_why(expected, before, rest),
         Unread::Label => "note: a process gives it a value, as `r0 = 1;`\n",
@@ -265,6 +274,32 @@ fn is_at_token(reason: Reason) -> bool
     matches!(reason, Reason::Syntax { .. } | Reason::Unsupported { .. })
 }
 
+/// A token stands in the initialization block, where this is expected.
+#[tactic(auto, unfolding(crate::specs::Notes::is_in_block))]
+fn is_in_block(expected: Expected) -> bool
+    ensures { result ≡ spec.is_in_block expected }
+{
+    matches!(
+        expected,
+        Expected::Variable | Expected::ItemEnd | Expected::Value
+    )
+}
+
+/// What is expected where a token is refused is expected in the initialization block.
+#[tactic(auto, unfolding(crate::specs::Notes::is_of_block))]
+fn is_of_block(reason: Reason) -> bool
+    ensures { result ≡ spec.is_of_block reason }
+{
+    match reason {
+        Reason::Syntax { fault: _, expected } => is_in_block(expected),
+        Reason::Unsupported {
+            unread: _,
+            expected,
+        } => is_in_block(expected),
+        _ => false,
+    }
+}
+
 /// The last line of what is said of a text that is refused where this token stands, behind this word in its line; the
 /// text goes on with these bytes from the token on.
 #[tactic(auto, unfolding(crate::specs::Notes::note_of))]
@@ -272,6 +307,9 @@ pub fn note_of(reason: Reason, token: &[u8], before: &[u8], rest: &[u8]) -> &'st
     ensures { result.now ≡ spec.note_of reason token.now before.now rest.now }
 {
     let behind = behind_token(token, rest);
+    if is_of_block(reason) && ends_structure(rest) {
+        return structure_note();
+    }
     if is_at_token(reason) && is_part(behind) {
         return part_note(behind);
     }

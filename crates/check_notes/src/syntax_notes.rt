@@ -5,43 +5,22 @@ ghost use Rattle.check_notes.specs.SyntaxNotes as spec;
 
 use crate::common_notes::{
     bare_note, block_note, compared_note, const_note, element_note, field_note, implied_note,
-    increase_note, join_note, jump_note, name_note, number_note, sequence_note, star_note,
-    structure_note, tilde_note,
+    increase_note, join_note, name_note, star_note, structure_note, tilde_note,
 };
-use crate::words::{
-    has_eight_bytes, has_four_bytes, has_one_byte, has_two_bytes, is_atomic_type, is_constant,
-    is_jump, is_lock_type, is_number, is_operator, is_qualifier, is_sequence_type, is_suffix,
-    is_type,
-};
+use crate::tables::type_line;
+use crate::words::{is_constant, is_jump, is_number, is_operator, is_qualifier, is_suffix};
+use call_notes::{jump_note, number_note};
 use litmus_lex::{Expected, Fault, Sign};
 
-/// Which type is read in the place of a word that is a type of the kernel, or how a parameter is written.
+/// Which type is read in the place of this word, or how a parameter is written.
 #[tactic(auto, unfolding(crate::specs::SyntaxNotes::type_note))]
 fn type_note(word: &[u8]) -> &'static str
     ensures { result.now ≡ spec.type_note word.now }
 {
-    if has_one_byte(word) {
-        return "note: the type of 1 byte is `char`, with a sign\n";
-    }
-    if has_two_bytes(word) {
-        return "note: the type of 2 bytes is `short`, with a sign\n";
-    }
-    if has_four_bytes(word) {
-        return "note: the type of 4 bytes is `int`, with a sign\n";
-    }
-    if has_eight_bytes(word) {
-        return "note: the type of 8 bytes is `long`, with a sign\n";
-    }
-    if is_lock_type(word) {
-        return "note: a lock is a `spinlock_t`\n";
-    }
-    if is_sequence_type(word) {
-        return sequence_note();
-    }
-    if is_atomic_type(word) {
-        return "note: an atomic variable is an `atomic_t`, of 4 bytes\n";
-    }
-    "note: a parameter is a type and a name behind `*`, as `int *x`, and a structure one for each field, as `int *m_f`\n"
+    type_line(
+        word,
+        "note: a parameter is a type and a name behind `*`, as `int *x`, and a structure one for each field, as `int *m_f`\n",
+    )
 }
 
 /// A word or an operator that joins conditions in C.
@@ -93,7 +72,7 @@ fn behind_number(token: &[u8], rest: &[u8]) -> &'static str
         return "note: a number has no suffix\n";
     }
     if token == b",".as_slice() {
-        return "note: `;` stands between, as in `int x = 1; int y = 2;`\n";
+        return "note: `;` stands between two items, as in `int x = 1; int y = 2;`, and `/\\` between two atoms of the condition\n";
     }
     if token == b":".as_slice() {
         return "note: a register is compared with a number alone: for two of P0 write `eq = r0 == r1;` there and `0:eq=1` here; for those of two processes write each case, as `0:r0=1 /\\ 1:r0=1`\n";
@@ -110,7 +89,7 @@ fn register_note(token: &[u8], rest: &[u8]) -> &'static str
     ensures { result.now ≡ spec.register_note token.now rest.now }
 {
     if token == b":".as_slice() {
-        return "note: no label is read: leave it out; what `goto` would repeat is a loop, as `ok = 0; for (i = 0; i < 3; i++) if (!ok) { r0 = *x; ok = r0 == 1; }`, with `if (ok) { .. }` round what follows\n";
+        return "note: no label is read: leave it out; what `goto` would repeat is a loop, as `ok = 0; for (n = 0; n < 3; n++) if (!ok) { old = *x; ok = old == 1; }`, with `if (ok) { .. }` round what follows\n";
     }
     if token == b"*".as_slice() && !rest.starts_with(b"*=") {
         return "note: a register is declared as `int r0`, also for a pointer, which is a number\n";
@@ -148,10 +127,13 @@ fn statement_note(token: &[u8], rest: &[u8]) -> &'static str
         return "note: for `-=` and `--` write `*x += -1`\n";
     }
     if token == b",".as_slice() {
-        return "note: a declaration gives one value: `int r0 = 1; int r1 = 2;`\n";
+        return "note: `;` stands between two statements, and a declaration gives one value: `int r0 = *x; int r1 = *y;`\n";
+    }
+    if token == b"=".as_slice() {
+        return "note: an assignment has no value: for `a = b = 1;` write `b = 1; a = 1;`\n";
     }
     if is_operator(token) {
-        return "note: with an operator there is `+=` alone, which is one access as `|=` is; `r0 = *x | 4; *x = r0;` is two, as are `r0 = *x & ~4; *x = r0;` and the same with `^` and `*`\n";
+        return "note: with an operator there is `+=` alone, one access that reads and writes, as `|=` and `&=` are: `*x += 4;` sets a bit that is 0, and `*x += -4;` clears one that is 1; `val = *x | 4; *x = val;` is two accesses, as is the same with `& ~4`, `^ 4` and `* 4`\n";
     }
     ""
 }
@@ -238,6 +220,9 @@ fn closing_note(token: &[u8], before: &[u8], rest: &[u8]) -> &'static str
     if is_operator(token) {
         return operand_note(before);
     }
+    if token == b",".as_slice() {
+        return "note: no `,` joins two values, and a call has no more arguments: for `r0 = (READ_ONCE(*x), 3);` write `READ_ONCE(*x); r0 = 3;`\n";
+    }
     joined_note(token, rest)
 }
 
@@ -292,7 +277,12 @@ fn parameter_note(token: &[u8]) -> &'static str
 fn is_before_function(token: &[u8]) -> bool
     ensures { result ≡ spec.is_before_function token.now }
 {
-    token == b"static".as_slice() || token == b"void".as_slice() || token == b"int".as_slice()
+    token == b"static".as_slice()
+        || token == b"void".as_slice()
+        || token == b"int".as_slice()
+        || token == b"typedef".as_slice()
+        || token == b"noinline".as_slice()
+        || token == b"__no_kcsan".as_slice()
 }
 
 /// A word or a sign that would deny what comes.
@@ -309,7 +299,10 @@ fn process_note(token: &[u8]) -> &'static str
     ensures { result.now ≡ spec.process_note token.now }
 {
     if is_before_function(token) {
-        return "note: no word stands before `P0`, and statements of another function stand in the processes themselves\n";
+        return "note: no word stands before `P0`: a variable is an item in the `{ }` and a parameter of each process, and statements of another function stand in the processes themselves; a process with `__no_kcsan` begins by `kcsan_disable_current();` and ends by `kcsan_enable_current();`\n";
+    }
+    if token.starts_with(b"DEFINE_") {
+        return "note: a variable is an item in the `{ }`: `spinlock_t l;` for a lock, `int seq;` for a sequence count, both for a seqlock, and `int cnt0; int cnt1;` for a variable of each CPU\n";
     }
     if denies(token) {
         return "note: that it never comes is asked by `~exists (0:r0=1)`\n";
@@ -326,13 +319,14 @@ fn process_note(token: &[u8]) -> &'static str
     ""
 }
 
-/// A structure of C ends before this token, or behind it.
-#[tactic(auto, unfolding(crate::specs::SyntaxNotes::ends_structure))]
-fn ends_structure(token: &[u8], rest: &[u8]) -> bool
-    ensures { result ≡ spec.ends_structure token.now rest.now }
+/// A structure of C ended before this token, or behind it, or an `enum` begins.
+#[tactic(auto, unfolding(crate::specs::SyntaxNotes::ended_structure))]
+fn ended_structure(token: &[u8], rest: &[u8]) -> bool
+    ensures { result ≡ spec.ended_structure token.now rest.now }
 {
     token == b";".as_slice()
         || token == b"{".as_slice()
+        || token == b"enum".as_slice()
         || behind_token(token, rest).starts_with(b";")
 }
 
@@ -341,7 +335,7 @@ fn ends_structure(token: &[u8], rest: &[u8]) -> bool
 fn first_process_note(token: &[u8], rest: &[u8]) -> &'static str
     ensures { result.now ≡ spec.first_process_note token.now rest.now }
 {
-    if ends_structure(token, rest) {
+    if ended_structure(token, rest) {
         return structure_note();
     }
     process_note(token)
@@ -372,13 +366,16 @@ fn is_read_type(token: &[u8]) -> bool
         || token == b"short".as_slice()
 }
 
-/// In the place of an expression: a field, or a cast.
+/// In the place of an expression: a field, its end, or a cast.
 #[tactic(auto, unfolding(crate::specs::SyntaxNotes::expression_note))]
 fn expression_note(token: &[u8]) -> &'static str
     ensures { result.now ≡ spec.expression_note token.now }
 {
     if token == b">".as_slice() {
         return field_note();
+    }
+    if token == b";".as_slice() || token == b")".as_slice() {
+        return "note: an operand is missing: for `r1 = r0--;` write `r1 = r0; r0 = r0 - 1;`, and for `r1 = (*x)--;` `r1 = *x; *x = r1 - 1;`\n";
     }
     if is_read_type(token) {
         return "note: no cast is read: leave it out\n";
@@ -392,7 +389,7 @@ fn item_end_note(token: &[u8], before: &[u8]) -> &'static str
     ensures { result.now ≡ spec.item_end_note token.now before.now }
 {
     if token == b"(".as_slice() && is_constant(before) {
-        return "note: an item is a type and a name: `spinlock_t l;` for a lock, `int seq;` for a sequence count, both for a seqlock, and `int f;` for bits\n";
+        return "note: an item is a type and a name: `spinlock_t l;` for a lock, `int seq;` for a sequence count, both for a seqlock, `int f;` for bits, and `int done;` for a completion\n";
     }
     if token == b"(".as_slice() {
         return block_note();
@@ -401,7 +398,7 @@ fn item_end_note(token: &[u8], before: &[u8]) -> &'static str
         return "note: each variable is an item of its own, as `int x; int y;`\n";
     }
     if token == b":".as_slice() {
-        return "note: bits of a word have no names: to set bit 1 of an `int *x`, as C does it, is `r0 = *x; *x = r0 | 2;`, and `*x & 2` reads it\n";
+        return "note: the bit-fields of a word are one `int *x` together: a write of one reads and writes all of it, as `*x += 2;` sets a bit 1 that is 0 and `*x += -2;` clears one that is 1, and never `*x = 1;`; `(*x & 2) != 0` reads it\n";
     }
     "note: this is the initialization block, from the first `{`: an item is `int x;` or `int x = 1;`; leave out one of another type than char, short, int, long, atomic_t and spinlock_t, or write it as an `int`\n"
 }
@@ -428,16 +425,33 @@ fn initial_note(token: &[u8]) -> &'static str
     if token == b"(".as_slice() {
         return number_note();
     }
+    if token == b"{".as_slice() {
+        return "note: leave the braces out, as in `atomic_t f = 0;`\n";
+    }
     ""
 }
 
 /// In the place of a statement.
 #[tactic(auto, unfolding(crate::specs::SyntaxNotes::statement_place_note))]
-fn statement_place_note(token: &[u8]) -> &'static str
-    ensures { result.now ≡ spec.statement_place_note token.now }
+fn statement_place_note(token: &[u8], rest: &[u8]) -> &'static str
+    ensures { result.now ≡ spec.statement_place_note token.now rest.now }
 {
     if token == b"{".as_slice() {
         return "note: a block stands behind `if (..)`, `else` or `for (..)` alone\n";
+    }
+    if rest.starts_with(b"--") {
+        return "note: for `--r0;` write `r0 = r0 - 1;`, and for `--*x;` `*x += -1;`\n";
+    }
+    ""
+}
+
+/// Behind a register of a declaration.
+#[tactic(auto, unfolding(crate::specs::SyntaxNotes::declaration_note))]
+fn declaration_note(token: &[u8]) -> &'static str
+    ensures { result.now ≡ spec.declaration_note token.now }
+{
+    if token == b"=".as_slice() {
+        return "note: of several registers none is given a value: write `int n; int r0 = -1;`\n";
     }
     ""
 }
@@ -449,14 +463,15 @@ fn place_note(expected: Expected, token: &[u8], before: &[u8], rest: &[u8]) -> &
 {
     match expected {
         Expected::Number =>
-            "note: write the number itself, as 0x1, and 1 for a pointer `&b` and 0 for NULL; two values are compared in a process, as `r2 = r0 == r1;`\n",
+            "note: write the number itself, as 0x1, and 1 for a pointer `&b` and 0 for NULL; two values are compared in a process, as `r2 = r0 == r1;`, or case by case, as `x=0 /\\ y=0 \\/ x=1 /\\ y=1`\n",
         Expected::Type => parameter_note(token),
         Expected::Expression => expression_note(token),
         Expected::ItemEnd => item_end_note(token, before),
         Expected::ParameterEnd => "note: `,` stands between two parameters, as `int *x, int *y`\n",
         Expected::Variable => item_note(token),
         Expected::Value => initial_note(token),
-        Expected::Statement => statement_place_note(token),
+        Expected::Statement => statement_place_note(token, rest),
+        Expected::DeclarationEnd => declaration_note(token),
         Expected::Head =>
             "note: the text begins with `C` and a name, as `C t`, and nothing but comments `(* .. *)` stands before them\n",
         Expected::Process => first_process_note(token, rest),
@@ -480,29 +495,55 @@ fn is_truth(token: &[u8]) -> bool
     token == b"true".as_slice() || token == b"false".as_slice()
 }
 
-/// What to write in the place of a token behind this word, which is taken for a register or a variable, or behind this
-/// number; the text goes on with these bytes from the token on.
-#[tactic(auto, unfolding(crate::specs::SyntaxNotes::token_note))]
-fn token_note(expected: Expected, token: &[u8], before: &[u8], rest: &[u8]) -> &'static str
-    ensures { result.now ≡ spec.token_note expected token.now before.now rest.now }
+/// A jump of C, behind this word.
+#[tactic(auto, unfolding(crate::specs::SyntaxNotes::jumped_note))]
+fn jumped_note(before: &[u8]) -> &'static str
+    ensures { result.now ≡ spec.jumped_note before.now }
 {
     if before == b"break".as_slice() {
-        return "note: no jump is read: a loop ends sooner as `ok = 0; for (i = 0; i < 3; i++) if (!ok) { r0 = *x; ok = r0 == 1; }`, with `if (!ok) { .. }` round what else a turn has\n";
+        return "note: no jump is read: a loop ends sooner as `ok = 0; for (n = 0; n < 3; n++) if (!ok) { old = *x; ok = old == 1; }`, with `if (!ok) { .. }` round what else a turn has\n";
     }
-    if is_jump(before) {
-        return jump_note();
+    jump_note()
+}
+
+/// A jump of C, behind this word, where this is expected: in the initialization block it is of a function.
+#[tactic(auto, unfolding(crate::specs::SyntaxNotes::jump_place_note))]
+fn jump_place_note(expected: Expected, before: &[u8]) -> &'static str
+    ensures { result.now ≡ spec.jump_place_note expected before.now }
+{
+    match expected {
+        Expected::ItemEnd => block_note(),
+        _ => jumped_note(before),
     }
-    if is_type(before) {
-        return type_note(before);
+}
+
+/// A `[` where this is expected.
+#[tactic(auto, unfolding(crate::specs::SyntaxNotes::bracket_note))]
+fn bracket_note(expected: Expected) -> &'static str
+    ensures { result.now ≡ spec.bracket_note expected }
+{
+    match expected {
+        Expected::Variable => "note: an item has no brackets: write `x = 1;`\n",
+        _ => element_note(),
     }
+}
+
+/// What to write in the place of a token behind this word, which is no type of the kernel.
+#[tactic(auto, unfolding(crate::specs::SyntaxNotes::other_token_note))]
+fn other_token_note(expected: Expected, token: &[u8], before: &[u8], rest: &[u8]) -> &'static str
+    ensures { result.now ≡ spec.other_token_note expected token.now before.now rest.now }
+{
     if is_number(before) {
         return behind_number(token, rest);
     }
     if is_qualifier(before) {
         return const_note();
     }
-    if before == b"enum".as_slice() || before == b"union".as_slice() {
-        return "note: write a constant of an `enum` as its number, and a field of a `union` as a variable, and leave this out\n";
+    if before == b"enum".as_slice() {
+        return "note: write a constant of an `enum` as its number, and leave this out\n";
+    }
+    if is_read_type(before) && is_read_type(token) {
+        return "note: a type is one word: char, short, int or long, of 1, 2, 4 and 8 bytes, as `long` for `long long`\n";
     }
     if token == b"++".as_slice() {
         return increase_note();
@@ -511,9 +552,21 @@ fn token_note(expected: Expected, token: &[u8], before: &[u8], rest: &[u8]) -> &
         return "note: write 1 for `true`, and 0 for `false`\n";
     }
     if token == b"[".as_slice() {
-        return element_note();
+        return bracket_note(expected);
     }
     place_note(expected, token, before, rest)
+}
+
+/// What to write in the place of a token behind this word, which is taken for a register or a variable, or behind this
+/// number; the text goes on with these bytes from the token on.
+#[tactic(auto, unfolding(crate::specs::SyntaxNotes::token_note))]
+fn token_note(expected: Expected, token: &[u8], before: &[u8], rest: &[u8]) -> &'static str
+    ensures { result.now ≡ spec.token_note expected token.now before.now rest.now }
+{
+    if is_jump(before) {
+        return jump_place_note(expected, before);
+    }
+    type_line(before, other_token_note(expected, token, before, rest))
 }
 
 /// In the place of a variable that the process, or of one that the text, doesn't have.

@@ -1,2 +1,3 @@
 mod HeadLemmas
 mod StatementLemmas
+mod TokenLemmas

@@ -1,5 +1,6 @@
 pub mod HeadScan
 pub mod HeadText
+pub mod OtherReadings
 pub mod Registers
 pub mod SameNames
 pub mod Warnings

@@ -1,14 +1,15 @@
--- What `check` warns of in a text that is read: text in its head that is passed over, registers that are 0 all the time,
--- and registers that have the name of a variable.
+-- What `check` warns of in a text that is read: text in its head that is passed over, tokens that C reads otherwise,
+-- registers that are 0 all the time, and registers that have the name of a variable.
 use Rattle.std.specs.Prelude.{◌≡◌, ◌++◌, ℕ, suc, List, [], ◌∷◌, Option, None, Some, codes}
 use Rattle.std.specs.Fmt.{decimal}
 use Rattle.std.specs.List.{concat}
-use Rattle.litmus_lex.specs.Head.{IsHead}
-use Rattle.litmus_lex.specs.Lines.{column_at, line_at}
+use Rattle.litmus_lex.specs.Head.{IsText}
+use Rattle.litmus_lex.specs.Tokens.{Placed}
 use Rattle.litmus_syntax.specs.Tree.{Block, Program, Proposition, Task}
 use Rattle.litmus_syntax.specs.declared.program.Variable.{Variable}
 use Rattle.program_table.specs.text_pieces.Shown.{shown}
 use Rattle.check_warnings.specs.HeadText.{text_in}
+use Rattle.check_warnings.specs.OtherReadings.{lines_at, placed_line, places_of}
 use Rattle.check_warnings.specs.Registers.{role_of}
 use Rattle.check_warnings.specs.SameNames.{named, same_name_words}
 use Rattle.check_warnings.specs.declared.registers.Role.{Role}
@@ -63,11 +64,11 @@ program_lines file program = tasks_from file program.variables program.condition
 -- the warning on text at this place of a head, in a file of this name
 unfoldable pub head_line : (file text : List ℕ) → Option ℕ → List ℕ
 head_line file text None = []
-head_line file text (Some at) = concat
-    (shown file ∷ codes ":" ∷ decimal (line_at text at) ∷ codes ":" ∷ decimal (column_at text at)
-    ∷ codes ": warning: text before the `{` is passed over\n" ∷ [])
+head_line file text (Some at) = placed_line file text at (codes ": warning: text before the `{` is passed over\n")
 
--- these are the warnings on a text that spells a program, in a file of this name: first that on its head
+-- these are the warnings on a text that spells a program, in a file of this name: first that on its head, then those on
+-- its tokens
 abbrev pub AreWarningsOf : (file text : List ℕ) → Program → (lines : List ℕ) → Type 0
-AreWarningsOf file text program lines = (name : List ℕ) (at : ℕ) (head : IsHead text name at)
-    → lines ≡ head_line file text (text_in head) ++ program_lines file program
+AreWarningsOf file text program lines = (name : List ℕ) (tokens : List Placed) (spelled : IsText text name tokens)
+    → lines ≡ head_line file text (text_in spelled.head)
+    ++ (lines_at file text (places_of tokens) ++ program_lines file program)

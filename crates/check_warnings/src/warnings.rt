@@ -1,5 +1,5 @@
-//! What `check` warns of in a text that is read: text in its head that is passed over, registers that are 0 all the time,
-//! and registers that have the name of a variable.
+//! What `check` warns of in a text that is read: text in its head that is passed over, tokens that C reads otherwise,
+//! registers that are 0 all the time, and registers that have the name of a variable.
 
 ghost use Rattle.std.specs.Prelude.{◌≡◌, ◌≤◌, IfOk, IfSome, length, map};
 ghost use Rattle.std.specs.Option.{option_map};
@@ -8,9 +8,9 @@ ghost use Rattle.check_warnings.specs.Warnings as spec;
 ghost use Rattle.check_warnings.specs.Warnings.{AreWarningsOf};
 
 use crate::head_text::passed_text;
+use crate::other_readings::{placed_line, tokens_lines};
 use crate::registers::{Role, role_of};
 use crate::same_names::{named, same_name_words};
-use litmus_lex::{column_of, line_of};
 use litmus_syntax::{Name, Program, Proposition, Statement, Task, Variable};
 use program_table::text_pieces::{joined, number, shown};
 use std::alloc::{AllocError, Global};
@@ -199,24 +199,17 @@ fn head_line(
     let Some(at) = found else {
         return Ok(Vec::new(alloc));
     };
-    let head = shown(alloc, file)?;
-    let line = number(alloc, line_of(text, at))?;
-    let column = number(alloc, column_of(text, at))?;
-    joined(
+    placed_line(
         alloc,
-        &[
-            &head,
-            b":",
-            &line,
-            b":",
-            &column,
-            b": warning: text before the `{` is passed over\n",
-        ],
+        file,
+        text,
+        at,
+        b": warning: text before the `{` is passed over\n",
     )
 }
 
 /// The warnings on a text that spells a program, in a file of this name: first that on text in its head, then those on
-/// registers of the program.
+/// tokens that C reads otherwise, then those on registers of the program.
 pub fn text_warnings(
     alloc: Global,
     file: &[u8],
@@ -226,6 +219,8 @@ pub fn text_warnings(
     ensures { IfOk result (λ lines. AreWarningsOf file.now text.now (program_of program.now) lines.items) }
 {
     let mut lines = head_line(alloc, file, text, passed_text(text))?;
+    let readings = tokens_lines(alloc, file, text)?;
+    lines.extend_from_slice(&readings)?;
     let others = program_lines(alloc, file, program)?;
     lines.extend_from_slice(&others)?;
     Ok(lines)

@@ -1,0 +1,7 @@
+-- The table is the one of the definition.
+use Rattle.call_notes.specs.LockCalls.{shared_lock_line}
+use Rattle.call_notes.proofs.lock_calls.shared_lock_line.Goals as goal
+
+pub returns : goal.returns
+unfolding shared_lock_line
+returns c = c.begun_note.ensures
