@@ -1,5 +1,5 @@
 //! Reads rows from standard input: texts with what comes of them by their tokens, their printed form, their meaning,
-//! their order and their accesses. It prints those of which something else comes.
+//! their order and their accesses, and parts of a search. It prints those of which something else comes.
 #![tactic(auto)]
 
 mod accesses;
@@ -10,7 +10,9 @@ mod happenings;
 mod meaning;
 mod numbers;
 mod order;
+mod parts;
 mod row;
+mod sample;
 mod sources;
 mod steps;
 mod tokens;

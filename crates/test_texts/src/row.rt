@@ -2,7 +2,7 @@
 
 use crate::blocks::{Block, Blocks};
 use crate::fault::Fault;
-use crate::{accesses, meaning, order, sources, tokens};
+use crate::{accesses, meaning, order, parts, sources, tokens};
 use litmus_parse::{Program, parse};
 use print_roundtrip::printed_bytes::read_back;
 use std::alloc::{AllocError, Global};
@@ -23,7 +23,7 @@ pub fn outcome(alloc: Global, blocks: &Blocks, row: &Block) -> Result<String, Al
 
 /// Shows what comes of a row. The first word says what is asked.
 fn show(alloc: Global, blocks: &Blocks, row: &Block, shown: &mut String) -> Result<(), Fault> {
-    let (kind, rest) = row.head.split_once(' ').ok_or(Fault::NoRow)?;
+    let (kind, rest) = row.head.split_once(' ').unwrap_or((&row.head, ""));
     match kind {
         "token" => tokens::show_token(alloc, rest, shown),
         "parts" => tokens::show_parts(alloc, rest, shown),
@@ -34,6 +34,10 @@ fn show(alloc: Global, blocks: &Blocks, row: &Block, shown: &mut String) -> Resu
         "meaning" => meaning::show(alloc, blocks, rest, shown),
         "order" => order::show(alloc, blocks, rest, &row.given, shown),
         "accesses" => accesses::show(alloc, blocks, rest, &row.given, shown),
+        "written" | "read" | "cut" | "add" | "change" => {
+            parts::show(alloc, blocks, kind, rest, shown)
+        }
+        "whole" => parts::show_whole(alloc, rest, shown),
         _ => Err(Fault::NoRow),
     }
 }
