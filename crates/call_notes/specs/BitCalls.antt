@@ -6,7 +6,7 @@ use Rattle.call_notes.specs.SharedLines.{bit_lock_note}
 -- a bit by marked accesses
 abbrev bit_text : List ℕ
 bit_text =
-    codes "note: bit 1 of an `int`: `ok = 0; for (n = 0; n < 3; n++) if (!ok) { old = READ_ONCE(*x); was = cmpxchg(x, old, old | 2); ok = was == old; }` sets it, `old & ~2` there clears it, and `old ^ 2` changes it; its value is `(ok & ((old & 2) != 0))`, and for `if (!test_and_set_bit(1, x)) { .. }` write `if (ok & !(old & 2)) { .. }`; `if (ok) { .. }` stands round what follows, and `exists` asks `1:ok=1 /\\ ..` of P1, and `forall` `1:ok=0 \\/ ..`\n"
+    codes "note: bit 1 of an `int`: `ok = 0; for (n = 0; n < 3; n++) if (!ok) { old = READ_ONCE(*x); was = cmpxchg(x, old, old | 2); ok = was == old; }` sets it, `old & ~2` there clears it, and `old ^ 2` changes it; its value is `(ok & ((old & 2) != 0))`, and for `if (!test_and_set_bit(1, x)) { .. }` write `if (ok & !(old & 2)) { .. }`; `if (ok) { .. }` stands round what follows, with `ok = 1;` before an `if` that may leave this out, and `exists` asks `1:ok=1 /\\ ..` of P1, and `forall` `1:ok=0 \\/ ..`\n"
 
 -- a bit by plain accesses
 abbrev plain_bit_text : List ℕ
@@ -34,7 +34,6 @@ bit_name_line name otherwise = named_note bit_name_rows name otherwise
 abbrev pub bit_rows : List Row
 bit_rows =
     (codes "test_bit", codes "note: bit 1 of an `int`: write `r0 = (READ_ONCE(*x) & 2) != 0;`\n")
-    ∷ (codes "test_and_set_bit_lock", bit_lock_note)
     ∷ (codes "clear_bit_unlock", bit_lock_note)
     ∷ (codes "bit_spin_", bit_lock_note)
     ∷ (codes "clear_bit", bit_text)

@@ -36,7 +36,7 @@ completion_text =
 -- what may come
 abbrev asserted_text : List ℕ
 asserted_text =
-    codes "note: what may come is asked by the condition, as `exists (1:r0=1)`\n"
+    codes "note: keep its loads, as `r1 = *x;` or `r1 = READ_ONCE(*x);`, and let the condition ask whether it can fail, as `exists (1:r1=0)`\n"
 
 -- a value that is its argument
 abbrev transparent_text : List ℕ

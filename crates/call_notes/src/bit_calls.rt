@@ -8,7 +8,7 @@ use crate::shared_lines::BIT_LOCK;
 
 /// A bit by marked accesses.
 const BIT: &str =
-    "note: bit 1 of an `int`: `ok = 0; for (n = 0; n < 3; n++) if (!ok) { old = READ_ONCE(*x); was = cmpxchg(x, old, old | 2); ok = was == old; }` sets it, `old & ~2` there clears it, and `old ^ 2` changes it; its value is `(ok & ((old & 2) != 0))`, and for `if (!test_and_set_bit(1, x)) { .. }` write `if (ok & !(old & 2)) { .. }`; `if (ok) { .. }` stands round what follows, and `exists` asks `1:ok=1 /\\ ..` of P1, and `forall` `1:ok=0 \\/ ..`\n";
+    "note: bit 1 of an `int`: `ok = 0; for (n = 0; n < 3; n++) if (!ok) { old = READ_ONCE(*x); was = cmpxchg(x, old, old | 2); ok = was == old; }` sets it, `old & ~2` there clears it, and `old ^ 2` changes it; its value is `(ok & ((old & 2) != 0))`, and for `if (!test_and_set_bit(1, x)) { .. }` write `if (ok & !(old & 2)) { .. }`; `if (ok) { .. }` stands round what follows, with `ok = 1;` before an `if` that may leave this out, and `exists` asks `1:ok=1 /\\ ..` of P1, and `forall` `1:ok=0 \\/ ..`\n";
 
 /// A bit by plain accesses.
 const PLAIN_BIT: &str =
@@ -38,12 +38,11 @@ pub(crate) fn bit_name_line(name: &[u8], otherwise: &'static str) -> &'static st
 }
 
 /// The lines on a call of a bit: the first row that a name begins with counts.
-static BIT_ROWS: [NoteRow; 7] = [
+static BIT_ROWS: [NoteRow; 6] = [
     NoteRow(
         "test_bit",
         "note: bit 1 of an `int`: write `r0 = (READ_ONCE(*x) & 2) != 0;`\n",
     ),
-    NoteRow("test_and_set_bit_lock", BIT_LOCK),
     NoteRow("clear_bit_unlock", BIT_LOCK),
     NoteRow("bit_spin_", BIT_LOCK),
     NoteRow("clear_bit", BIT),

@@ -28,7 +28,8 @@ const COMPLETION: &str =
     "note: a completion is an `int *done`: write `smp_store_release(done, 1);`, and what waits for it as a wait for 1; where several wait and complete lets one of them through, each of them tries `was = cmpxchg(done, 1, 0); ok = was == 1;`\n";
 
 /// What may come.
-const ASSERTED: &str = "note: what may come is asked by the condition, as `exists (1:r0=1)`\n";
+const ASSERTED: &str =
+    "note: keep its loads, as `r1 = *x;` or `r1 = READ_ONCE(*x);`, and let the condition ask whether it can fail, as `exists (1:r1=0)`\n";
 
 /// A value that is its argument.
 const TRANSPARENT: &str = "note: write what its parentheses have\n";

@@ -46,7 +46,7 @@ form_why expected token =
 -- the line on a structure of C
 unfoldable pub structure_why : List ℕ → List ℕ
 structure_why rest = structure_line rest
-    (codes "note: each field is a variable of its own, as `int *m_f` for `m->f`, and the bit-fields of a word are one together; a pointer is a number, 1 for `&m` and 0 for NULL: `int *p` for a parameter `struct msg **p`, and `int p` as an item or a register\n")
+    (codes "note: each field is a variable of its own, as `int *m_f` for `m->f`, and the bit-fields of a word are one together; a pointer is a number of 8 bytes, 1 for `&m` and 0 for NULL: `long *p` for a parameter `struct msg **p`, and `long p` as an item or a register\n")
 
 -- a word of C
 unfoldable pub word_why : List ℕ → List ℕ → List ℕ
@@ -68,11 +68,11 @@ division_why sign =
 -- an operator of C
 unfoldable pub operator_why : List ℕ → List ℕ
 operator_why sign =
-    if bytes_eq sign (codes "&&") then codes "note: comparisons are joined by `&`, as `(r0 == 1) & (r1 == 2)`, with `(r0 != 0)` for `r0`; where the right side loads, write `ok = r0 == 1; if (ok) ok = *y == 2; if (ok) ..`\n"
-    else if bytes_eq sign (codes "||") then codes "note: comparisons are joined by `|`, as `(r0 == 1) | (r1 == 2)`, with `(r0 != 0)` for `r0`; where the right side loads, write `ok = r0 == 1; if (!ok) ok = *y == 2; if (ok) ..`\n"
+    if bytes_eq sign (codes "&&") then codes "note: comparisons are joined by `&`, as `(r0 == 1) & (r1 == 2)`, with `(r0 != 0)` for `r0`; where the right side loads or assigns, write `ok = r0 == 1; if (ok) ok = *y == 2; if (ok) ..`\n"
+    else if bytes_eq sign (codes "||") then codes "note: comparisons are joined by `|`, as `(r0 == 1) | (r1 == 2)`, with `(r0 != 0)` for `r0`; where the right side loads or assigns, write `ok = r0 == 1; if (!ok) ok = *y == 2; if (ok) ..`\n"
     else if bytes_eq sign (codes "?") then codes "note: write `if (r0) r1 = 1; else r1 = 2;`\n"
     else if bytes_eq sign (codes "<<") then codes "note: write `(r0 * 4)` for `r0 << 2`, and the number itself for `1 << 2`\n"
-    else if bytes_eq sign (codes ">>") then codes "note: a bit is tested by `r0 & 4`, and `(r0 >> 2) & 1` is `((r0 & 4) != 0)`; of a register from 0 to 7, as `r0 = *x;` loads, `r0 >> 2` is `(r0 >= 4)`; for `(r0 & 0xf0) >> 4 == 2` write `(r0 & 0xf0) == 0x20`\n"
+    else if bytes_eq sign (codes ">>") then codes "note: a bit is tested by `r0 & 4`, and `(r0 >> 2) & 1` is `((r0 & 4) != 0)`; of a register from 0 to 7, as `r0 = *x;` loads, `r0 >> 2` is `(r0 >= 4)`; for `(r0 & 0xf0) >> 4 == 2` write `(r0 & 0xf0) == 0x20`, and `(r0 & 0xf0) + 0x10` has 1 more in those bits\n"
     else division_why sign
 
 -- an address where this is expected
@@ -108,9 +108,9 @@ ends_parameter (byte ∷ bytes) =
 unfoldable pub variable_pointer_why : (before rest : List ℕ) → List ℕ
 variable_pointer_why before rest =
     if not (length before == 0)
-    then codes "note: an item is `int x`, with no `*`: a pointer is a number, 1 for `&b` and 0 for NULL\n"
+    then codes "note: an item is `int x`, with no `*`: a pointer is a `long p`, 1 for `&b` and 0 for NULL\n"
     else if ends_parameter rest
-    then codes "note: a pointer is a number, 1 for `&b` and 0 for NULL: write `int *p` for `int **p`\n"
+    then codes "note: a pointer is a number of 8 bytes, 1 for `&b` and 0 for NULL: write `long *p` for `int **p`\n"
     else block_note
 
 -- a pointer that is made where this is expected

@@ -73,7 +73,7 @@ statement_note token rest =
     else if bytes_eq token (codes ",") then codes "note: `;` stands between two statements, and a declaration gives one value: `int r0 = *x; int r1 = *y;`\n"
     else if bytes_eq token (codes "=") then codes "note: an assignment has no value: for `a = b = 1;` write `b = 1; a = 1;`\n"
     else if is_operator token
-    then codes "note: with an operator there is `+=` alone, one access that reads and writes, as `|=` and `&=` are: `*x += 4;` sets a bit that is 0, and `*x += -4;` clears one that is 1; `val = *x | 4; *x = val;` is two accesses, as is the same with `& ~4`, `^ 4` and `* 4`\n"
+    then codes "note: with an operator there is `+=` alone, one access that reads and writes, as `|=`, `&=` and `^=` are: `*x += 4;` sets a bit that is 0, and `*x += -4;` clears one that is 1, where no other task changes it meanwhile; `val = *x | 4; *x = val;`, and the same with `& ~4`, `^ 4` and `* 4`, has the right value in any case, and is two accesses, the second of which counts as marked but for `--strict`\n"
     else []
 
 -- behind `(*x)`
@@ -142,7 +142,7 @@ starred_note token =
 unfoldable pub parameter_note : List ℕ → List ℕ
 parameter_note token =
     if is_qualifier token then const_note
-    else if bytes_eq token (codes "void") then codes "note: a process without variables begins with `P0()`, and a `void *x` is an `int *x`\n"
+    else if bytes_eq token (codes "void") then codes "note: a process without variables begins with `P0()`; a variable of the file is a parameter of each process that uses it, as `P0(int *ready)`, and a `void *x` is an `int *x`\n"
     else type_note token
 
 -- a word that C has before a function
@@ -199,7 +199,7 @@ expression_note token =
     if bytes_eq token (codes ">") then field_note
     else if bytes_eq token (codes ";") || bytes_eq token (codes ")")
     then codes "note: an operand is missing: for `r1 = r0--;` write `r1 = r0; r0 = r0 - 1;`, and for `r1 = (*x)--;` `r1 = *x; *x = r1 - 1;`\n"
-    else if is_read_type token then codes "note: no cast is read: leave it out\n"
+    else if is_read_type token then codes "note: no cast is read: leave it out where the value fits, and write `(r0 & 0xffff)` for `(u16)r0` and `((r0 & 0x80000000) != 0)` for `(int)r0 < 0`\n"
     else []
 
 -- behind an item, or behind this word that is taken for one

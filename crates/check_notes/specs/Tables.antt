@@ -5,7 +5,7 @@ use Rattle.check_notes.specs.CommonNotes.{turns_note}
 
 -- a type of 1 byte
 abbrev one_byte_text : List ℕ
-one_byte_text = codes "note: the type of 1 byte is `char`, with a sign: for `u8` compare `(READ_ONCE(*f) & 0xff) == 0x80`\n"
+one_byte_text = codes "note: the type of 1 byte is `char`, with a sign: for `u8` write `(*f & 0xff)` where `*f` is loaded, and the same round a marked load, `xchg` and `cmpxchg`, as `(READ_ONCE(*f) & 0xff)`; `(r0 - r1) & 0xff` keeps a register in 8 bits; in `exists` it has its sign, `f=-1` for 0xff\n"
 
 -- a truth value
 abbrev bool_text : List ℕ
@@ -14,11 +14,11 @@ bool_text =
 
 -- a type of 2 bytes
 abbrev two_bytes_text : List ℕ
-two_bytes_text = codes "note: the type of 2 bytes is `short`, with a sign: for `u16` compare `(READ_ONCE(*f) & 0xffff) == 0x8000`\n"
+two_bytes_text = codes "note: the type of 2 bytes is `short`, with a sign: for `u16` write `(*f & 0xffff)` where `*f` is loaded, and the same round a marked load, `xchg` and `cmpxchg`, as `(READ_ONCE(*f) & 0xffff)`; `(r0 - r1) & 0xffff` keeps a register in 16 bits; in `exists` it has its sign, `f=-1` for 0xffff\n"
 
 -- a type of 4 bytes
 abbrev four_bytes_text : List ℕ
-four_bytes_text = codes "note: the type of 4 bytes is `int`, with a sign: for `u32` compare `(READ_ONCE(*f) & 0xffffffff) > 5`\n"
+four_bytes_text = codes "note: the type of 4 bytes is `int`, with a sign: for `u32` write `(*f & 0xffffffff)` where `*f` is loaded, and the same round a marked load, `xchg` and `cmpxchg`, as `(READ_ONCE(*f) & 0xffffffff)`; `(r0 - r1) & 0xffffffff` keeps a register in 32 bits; in `exists` it has its sign, `f=-1` for 0xffffffff\n"
 
 -- a type of 8 bytes
 abbrev eight_bytes_text : List ℕ

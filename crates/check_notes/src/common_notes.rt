@@ -44,7 +44,7 @@ pub(crate) fn tilde_note() -> &'static str
 pub(crate) fn structure_note() -> &'static str
     ensures { result.now ≡ spec.structure_note }
 {
-    "note: the first `{` begins the initialization block, with no `;` behind it: leave a structure out, and write a variable for each field, as `P0(int *msg_f, int *msg_g)`, and one `int *m` for all bit-fields of a word; leave an `enum` out, and write each constant as its number\n"
+    "note: the first `{` begins the initialization block, with no `;` behind it: leave a structure out, and write a variable for each field, as `P0(int *msg_f, int *msg_g)`, and one for all bit-fields that share their bytes, as `int *m` where one is an `unsigned` and `char *m` where all are `u8`; leave an `enum` out, and write each constant as its number\n"
 }
 
 /// A field has no name of its own here.
@@ -52,7 +52,7 @@ pub(crate) fn structure_note() -> &'static str
 pub(crate) fn field_note() -> &'static str
     ensures { result.now ≡ spec.field_note }
 {
-    "note: a field is a variable of its own, of an `int *p_f`: for `p->f` write `*p_f`, with `(*p_f)++;` for `p->f++;`, and for `&p->f` `p_f`; the bit-fields of a word are one variable together, and a write of one reads and writes all of it, as `*p_f += 4;` sets a bit 2 that is 0, and never `*p_f = 1;`; where `p` was loaded, with 1 for `&b`, write `if (p == 1) r0 = *b_f;`\n"
+    "note: a field is a variable of its own, of an `int *p_f`: for `p->f` write `*p_f`, with `(*p_f)++;` for `p->f++;`, and for `&p->f` `p_f`; the bit-fields of a word are one variable together, and a write of one reads and writes all of it, never `*p_f = 1;`: `*p_f += 4;` sets a bit 2 that is 0, as one access, and `val = *p_f & ~0x70 | 0x50; *p_f = val;` makes bits 4 to 6 a 5, as two; where `p` was loaded, with 1 for `&b`, write `if (p == 1) r0 = *b_f;`\n"
 }
 
 /// An element has no name of its own here.

@@ -83,7 +83,7 @@ fn structure_why(rest: &[u8]) -> &'static str
 {
     structure_line(
         rest,
-        "note: each field is a variable of its own, as `int *m_f` for `m->f`, and the bit-fields of a word are one together; a pointer is a number, 1 for `&m` and 0 for NULL: `int *p` for a parameter `struct msg **p`, and `int p` as an item or a register\n",
+        "note: each field is a variable of its own, as `int *m_f` for `m->f`, and the bit-fields of a word are one together; a pointer is a number of 8 bytes, 1 for `&m` and 0 for NULL: `long *p` for a parameter `struct msg **p`, and `long p` as an item or a register\n",
     )
 }
 
@@ -124,10 +124,10 @@ fn operator_why(sign: &[u8]) -> &'static str
     ensures { result.now ≡ spec.operator_why sign.now }
 {
     if sign == b"&&".as_slice() {
-        return "note: comparisons are joined by `&`, as `(r0 == 1) & (r1 == 2)`, with `(r0 != 0)` for `r0`; where the right side loads, write `ok = r0 == 1; if (ok) ok = *y == 2; if (ok) ..`\n";
+        return "note: comparisons are joined by `&`, as `(r0 == 1) & (r1 == 2)`, with `(r0 != 0)` for `r0`; where the right side loads or assigns, write `ok = r0 == 1; if (ok) ok = *y == 2; if (ok) ..`\n";
     }
     if sign == b"||".as_slice() {
-        return "note: comparisons are joined by `|`, as `(r0 == 1) | (r1 == 2)`, with `(r0 != 0)` for `r0`; where the right side loads, write `ok = r0 == 1; if (!ok) ok = *y == 2; if (ok) ..`\n";
+        return "note: comparisons are joined by `|`, as `(r0 == 1) | (r1 == 2)`, with `(r0 != 0)` for `r0`; where the right side loads or assigns, write `ok = r0 == 1; if (!ok) ok = *y == 2; if (ok) ..`\n";
     }
     if sign == b"?".as_slice() {
         return "note: write `if (r0) r1 = 1; else r1 = 2;`\n";
@@ -136,7 +136,7 @@ fn operator_why(sign: &[u8]) -> &'static str
         return "note: write `(r0 * 4)` for `r0 << 2`, and the number itself for `1 << 2`\n";
     }
     if sign == b">>".as_slice() {
-        return "note: a bit is tested by `r0 & 4`, and `(r0 >> 2) & 1` is `((r0 & 4) != 0)`; of a register from 0 to 7, as `r0 = *x;` loads, `r0 >> 2` is `(r0 >= 4)`; for `(r0 & 0xf0) >> 4 == 2` write `(r0 & 0xf0) == 0x20`\n";
+        return "note: a bit is tested by `r0 & 4`, and `(r0 >> 2) & 1` is `((r0 & 4) != 0)`; of a register from 0 to 7, as `r0 = *x;` loads, `r0 >> 2` is `(r0 >= 4)`; for `(r0 & 0xf0) >> 4 == 2` write `(r0 & 0xf0) == 0x20`, and `(r0 & 0xf0) + 0x10` has 1 more in those bits\n";
     }
     division_why(sign)
 }
@@ -195,10 +195,10 @@ fn variable_pointer_why(before: &[u8], rest: &[u8]) -> &'static str
     ensures { result.now ≡ spec.variable_pointer_why before.now rest.now }
 {
     if !before.is_empty() {
-        return "note: an item is `int x`, with no `*`: a pointer is a number, 1 for `&b` and 0 for NULL\n";
+        return "note: an item is `int x`, with no `*`: a pointer is a `long p`, 1 for `&b` and 0 for NULL\n";
     }
     if ends_parameter(rest) {
-        return "note: a pointer is a number, 1 for `&b` and 0 for NULL: write `int *p` for `int **p`\n";
+        return "note: a pointer is a number of 8 bytes, 1 for `&b` and 0 for NULL: write `long *p` for `int **p`\n";
     }
     block_note()
 }

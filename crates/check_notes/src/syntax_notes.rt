@@ -133,7 +133,7 @@ fn statement_note(token: &[u8], rest: &[u8]) -> &'static str
         return "note: an assignment has no value: for `a = b = 1;` write `b = 1; a = 1;`\n";
     }
     if is_operator(token) {
-        return "note: with an operator there is `+=` alone, one access that reads and writes, as `|=` and `&=` are: `*x += 4;` sets a bit that is 0, and `*x += -4;` clears one that is 1; `val = *x | 4; *x = val;` is two accesses, as is the same with `& ~4`, `^ 4` and `* 4`\n";
+        return "note: with an operator there is `+=` alone, one access that reads and writes, as `|=`, `&=` and `^=` are: `*x += 4;` sets a bit that is 0, and `*x += -4;` clears one that is 1, where no other task changes it meanwhile; `val = *x | 4; *x = val;`, and the same with `& ~4`, `^ 4` and `* 4`, has the right value in any case, and is two accesses, the second of which counts as marked but for `--strict`\n";
     }
     ""
 }
@@ -267,7 +267,7 @@ fn parameter_note(token: &[u8]) -> &'static str
         return const_note();
     }
     if token == b"void".as_slice() {
-        return "note: a process without variables begins with `P0()`, and a `void *x` is an `int *x`\n";
+        return "note: a process without variables begins with `P0()`; a variable of the file is a parameter of each process that uses it, as `P0(int *ready)`, and a `void *x` is an `int *x`\n";
     }
     type_note(token)
 }
@@ -378,7 +378,7 @@ fn expression_note(token: &[u8]) -> &'static str
         return "note: an operand is missing: for `r1 = r0--;` write `r1 = r0; r0 = r0 - 1;`, and for `r1 = (*x)--;` `r1 = *x; *x = r1 - 1;`\n";
     }
     if is_read_type(token) {
-        return "note: no cast is read: leave it out\n";
+        return "note: no cast is read: leave it out where the value fits, and write `(r0 & 0xffff)` for `(u16)r0` and `((r0 & 0x80000000) != 0)` for `(int)r0 < 0`\n";
     }
     ""
 }

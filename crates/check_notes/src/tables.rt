@@ -8,7 +8,7 @@ use call_notes::{NoteRow, begun_note, named_note};
 
 /// A type of 1 byte.
 const ONE_BYTE: &str =
-    "note: the type of 1 byte is `char`, with a sign: for `u8` compare `(READ_ONCE(*f) & 0xff) == 0x80`\n";
+    "note: the type of 1 byte is `char`, with a sign: for `u8` write `(*f & 0xff)` where `*f` is loaded, and the same round a marked load, `xchg` and `cmpxchg`, as `(READ_ONCE(*f) & 0xff)`; `(r0 - r1) & 0xff` keeps a register in 8 bits; in `exists` it has its sign, `f=-1` for 0xff\n";
 
 /// A truth value.
 const BOOL: &str =
@@ -16,11 +16,11 @@ const BOOL: &str =
 
 /// A type of 2 bytes.
 const TWO_BYTES: &str =
-    "note: the type of 2 bytes is `short`, with a sign: for `u16` compare `(READ_ONCE(*f) & 0xffff) == 0x8000`\n";
+    "note: the type of 2 bytes is `short`, with a sign: for `u16` write `(*f & 0xffff)` where `*f` is loaded, and the same round a marked load, `xchg` and `cmpxchg`, as `(READ_ONCE(*f) & 0xffff)`; `(r0 - r1) & 0xffff` keeps a register in 16 bits; in `exists` it has its sign, `f=-1` for 0xffff\n";
 
 /// A type of 4 bytes.
 const FOUR_BYTES: &str =
-    "note: the type of 4 bytes is `int`, with a sign: for `u32` compare `(READ_ONCE(*f) & 0xffffffff) > 5`\n";
+    "note: the type of 4 bytes is `int`, with a sign: for `u32` write `(*f & 0xffffffff)` where `*f` is loaded, and the same round a marked load, `xchg` and `cmpxchg`, as `(READ_ONCE(*f) & 0xffffffff)`; `(r0 - r1) & 0xffffffff` keeps a register in 32 bits; in `exists` it has its sign, `f=-1` for 0xffffffff\n";
 
 /// A type of 8 bytes.
 const EIGHT_BYTES: &str = "note: the type of 8 bytes is `long`, with a sign\n";
