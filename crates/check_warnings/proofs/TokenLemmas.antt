@@ -1,5 +1,5 @@
 -- Nothing is warned of behind a text, and of tokens what is warned of their places.
-use Rattle.std.proofs.Common.{◌≡◌, ◌<◌, ◌∷◌, ℕ, List, [], ap, ap₂, arith, drop, length, refl}
+use Rattle.std.proofs.Common.{◌≡◌, ◌<◌, ◌∷◌, ℕ, List, [], ap, ap₂, arith, length, refl}
 use Rattle.std.proofs.Math.ListN.{drop_of_length-le}
 use Rattle.litmus_lex.specs.Spots.{AreSpots}
 use Rattle.litmus_lex.specs.Tokens.{Placed}

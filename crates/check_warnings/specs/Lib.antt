@@ -1,3 +1,4 @@
+pub mod Comparisons
 pub mod HeadScan
 pub mod HeadText
 pub mod OtherReadings

@@ -1,5 +1,6 @@
 -- What `check` warns of in a text that is read: text in its head that is passed over, tokens that C reads otherwise,
--- registers that are 0 all the time, and registers that have the name of a variable.
+-- registers that are 0 all the time, registers that have the name of a variable, and variables that are compared with a
+-- number that they never are.
 use Rattle.std.specs.Prelude.{◌≡◌, ◌++◌, ℕ, suc, List, [], ◌∷◌, Option, None, Some, codes}
 use Rattle.std.specs.Fmt.{decimal}
 use Rattle.std.specs.List.{concat}
@@ -8,6 +9,7 @@ use Rattle.litmus_lex.specs.Tokens.{Placed}
 use Rattle.litmus_syntax.specs.Tree.{Block, Program, Proposition, Task}
 use Rattle.litmus_syntax.specs.declared.program.Variable.{Variable}
 use Rattle.program_table.specs.text_pieces.Shown.{shown}
+use Rattle.check_warnings.specs.Comparisons.{variables_from}
 use Rattle.check_warnings.specs.HeadText.{text_in}
 use Rattle.check_warnings.specs.OtherReadings.{lines_at, placed_line, places_of}
 use Rattle.check_warnings.specs.Registers.{role_of}
@@ -57,9 +59,11 @@ module _ (file : List ℕ) (variables : List Variable) (condition : Proposition)
   tasks_from number [] = []
   tasks_from number (task ∷ more) = registers_from number task.body 0 task.registers ++ tasks_from (suc number) more
 
--- the warnings on a program, in a file of this name
+-- the warnings on a program, in a file of this name: first those on its registers, then those on its variables
 unfoldable pub program_lines : (file : List ℕ) → Program → List ℕ
-program_lines file program = tasks_from file program.variables program.condition 0 program.tasks
+program_lines file program =
+    tasks_from file program.variables program.condition 0 program.tasks
+    ++ variables_from file program.tasks program.condition 0 program.variables
 
 -- the warning on text at this place of a head, in a file of this name
 unfoldable pub head_line : (file text : List ℕ) → Option ℕ → List ℕ
@@ -67,7 +71,7 @@ head_line file text None = []
 head_line file text (Some at) = placed_line file text at (codes ": warning: text before the `{` is passed over\n")
 
 -- these are the warnings on a text that spells a program, in a file of this name: first that on its head, then those on
--- its tokens
+-- its tokens, then those on the program
 abbrev pub AreWarningsOf : (file text : List ℕ) → Program → (lines : List ℕ) → Type 0
 AreWarningsOf file text program lines = (name : List ℕ) (tokens : List Placed) (spelled : IsText text name tokens)
     → lines ≡ head_line file text (text_in spelled.head)

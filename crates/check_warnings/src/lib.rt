@@ -1,7 +1,8 @@
-//! What `check` warns of: text before the program that is passed over, tokens that C reads otherwise, and registers that
-//! are 0 all the time, or have the name of a variable.
+//! What `check` warns of: text before the program that is passed over, tokens that C reads otherwise, registers that are 0
+//! all the time, or have the name of a variable, and variables that are compared with a number that they never are.
 #![tactic(auto)]
 
+mod comparisons;
 mod head_text;
 mod other_readings;
 mod registers;

@@ -1,5 +1,6 @@
 //! What `check` warns of in a text that is read: text in its head that is passed over, tokens that C reads otherwise,
-//! registers that are 0 all the time, and registers that have the name of a variable.
+//! registers that are 0 all the time, registers that have the name of a variable, and variables that are compared with a
+//! number that they never are.
 
 ghost use Rattle.std.specs.Prelude.{◌≡◌, ◌≤◌, IfOk, IfSome, length, map};
 ghost use Rattle.std.specs.Option.{option_map};
@@ -7,6 +8,7 @@ ghost use Rattle.litmus_syntax.specs.Views.{block_of, program_of, proposition_of
 ghost use Rattle.check_warnings.specs.Warnings as spec;
 ghost use Rattle.check_warnings.specs.Warnings.{AreWarningsOf};
 
+use crate::comparisons::compared_lines;
 use crate::head_text::passed_text;
 use crate::other_readings::{placed_line, tokens_lines};
 use crate::registers::{Role, role_of};
@@ -177,12 +179,15 @@ fn tasks_lines(
 
 /// The warnings on a program, in a file of this name: a line for each register that has the name of a variable and
 /// stands in a statement, and for each other one that no statement of its process assigns, and that one reads or the
-/// condition names.
+/// condition names; then one for each variable that is compared with a number that it never is.
 #[tactic(auto, unfolding(crate::specs::Warnings::program_lines))]
 fn program_lines(alloc: Global, file: &[u8], program: &Program) -> Result<Vec<u8>, AllocError>
     ensures { IfOk result (λ lines. lines.items ≡ spec.program_lines file.now (program_of program.now)) }
 {
-    tasks_lines(alloc, file, program.tasks.as_slice(), program)
+    let mut lines = tasks_lines(alloc, file, program.tasks.as_slice(), program)?;
+    let others = compared_lines(alloc, file, program)?;
+    lines.extend_from_slice(&others)?;
+    Ok(lines)
 }
 
 /// The warning on text at this place of a head, in a file of this name, or nothing.
@@ -209,7 +214,7 @@ fn head_line(
 }
 
 /// The warnings on a text that spells a program, in a file of this name: first that on text in its head, then those on
-/// tokens that C reads otherwise, then those on registers of the program.
+/// tokens that C reads otherwise, then those on registers of the program, then those on its variables.
 pub fn text_warnings(
     alloc: Global,
     file: &[u8],
