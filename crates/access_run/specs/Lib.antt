@@ -4,3 +4,4 @@ pub mod Whole
 pub mod Stamps
 pub mod Leads
 pub mod memory_operation
+pub mod Changes

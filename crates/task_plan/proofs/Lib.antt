@@ -1,4 +1,5 @@
 pub mod CountLemmas
+pub mod UseLemmas
 pub mod FormLemmas
 pub mod StackLemmas
 pub mod StepsLemmas

@@ -13,4 +13,5 @@ pub mod Plans
 pub mod Keeps
 pub mod Room
 pub mod SameProgress
+pub mod Uses
 pub mod task_points

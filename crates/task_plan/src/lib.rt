@@ -13,6 +13,7 @@ pub mod plan;
 pub mod progress;
 pub mod same_text;
 pub mod task_points;
+pub mod uses;
 pub mod walk;
 
 pub use due::Due;

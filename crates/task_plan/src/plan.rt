@@ -81,7 +81,7 @@ fn fetch_kind(fetch: &Fetch) -> Kind
 }
 
 /// The variable of a load.
-fn variable_of(fetch: &Fetch) -> usize
+pub(crate) fn variable_of(fetch: &Fetch) -> usize
     ensures { result ≡ loads.variable_of (fetch_of fetch.now) }
 {
     match fetch {

@@ -15,3 +15,5 @@ pub mod Points
 pub mod Room
 pub mod Copies
 pub mod Keys
+pub mod Uses
+pub mod CellUses

@@ -12,6 +12,7 @@ mod marks;
 mod news;
 pub mod run;
 mod stage;
+pub mod uses;
 
 pub use laws::{
     law_machines_of_one_key_tell_the_same_accesses, law_machines_tell_accesses_in_progress,

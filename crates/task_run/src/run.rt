@@ -414,7 +414,7 @@ impl<'a> TaskRun<'a> {
     }
 
     /// What the task has begun in the part of its text that it is in, or closes there.
-    fn begun_now(&self) -> Option<Begun>
+    pub(crate) fn begun_now(&self) -> Option<Begun>
         ensures { result ≡ begun_in self.now.machine.checker self.now.stage }
     {
         match &self.stage {

@@ -23,6 +23,7 @@ pub struct OperationRun {
 impl OperationRun {
     ghost use Rattle.std.specs.Prelude.{◌≡◌, ◌↔◌, ◌++◌, ◌∷◌, [], ℕ, List, IfSome, IsNone, IsTrue};
     ghost use Rattle.access_types.specs.Access as accesses;
+    ghost use Rattle.access_run.specs.Changes.{operation_changes};
     ghost use Rattle.access_run.specs.memory_operation.Effects.{did};
     ghost use Rattle.access_run.specs.memory_operation.Leads.{IsComplete, IsDone, IsOperationOver, IsStuck, Leads, OnlyStep, Says};
     ghost use Rattle.access_run.specs.declared.memory_operation.operation.Operation.{Operation};
@@ -57,6 +58,16 @@ impl OperationRun {
             // The first exchange is always made: only one that was refused is a failed try.
             OperationStage::Exchange { tries, .. } => tries > 0 && tries >= turns,
             _ => false,
+        }
+    }
+
+    /// Whether it may still change its cell.
+    pub fn changes(&self) -> bool
+        ensures { result ≡ operation_changes self.now.stage }
+    {
+        match self.stage {
+            OperationStage::Over | OperationStage::Load(Operation::Load) => false,
+            OperationStage::Load(_) | OperationStage::Exchange { .. } => true,
         }
     }
 
