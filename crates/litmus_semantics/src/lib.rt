@@ -5,6 +5,7 @@
 pub mod expression;
 pub mod final_condition;
 pub mod laws;
+pub mod same_text;
 pub mod site;
 pub mod value;
 

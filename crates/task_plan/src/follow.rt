@@ -5,7 +5,7 @@ ghost use Rattle.task_plan.specs.Follow as spec;
 ghost use Rattle.task_plan.specs.Follow.{disable_count, taker_off};
 ghost use Rattle.task_plan.specs.Views.{follow_of, taker_of};
 
-use crate::same_text::is_same_loading;
+use litmus_semantics::same_text::is_same_loading;
 use litmus_syntax::Loading;
 
 /// What takes the value of a load.

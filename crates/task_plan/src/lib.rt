@@ -11,7 +11,6 @@ pub mod locks;
 mod places;
 pub mod plan;
 pub mod progress;
-pub mod same_text;
 pub mod task_points;
 pub mod uses;
 pub mod walk;

@@ -7,9 +7,9 @@ use crate::plans::after_first;
 use crate::process::{body_of, program_of, walk_of};
 use crate::script::{Asked, begin_word};
 use litmus_parse::Program;
+use litmus_semantics::same_text::is_same_block;
 use litmus_syntax::Statement;
 use std::alloc::Global;
-use task_plan::same_text::is_same_block;
 use task_plan::{Due, Walk};
 
 /// What stands between two texts of a row.

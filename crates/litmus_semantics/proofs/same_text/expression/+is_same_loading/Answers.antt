@@ -5,7 +5,7 @@ use Rattle.litmus_syntax.specs.Views.{load_of, loading_of}
 use Rattle.litmus_syntax.specs.declared.expression.Load.{Load}
 use Rattle.litmus_syntax.specs.declared.expression.Loading.{Loading}
 use Rattle.litmus_syntax.specs.declared.expression.Loading.TheVariants as loadings
-use Rattle.task_plan.proofs.same_text.expression.+is_same_loading.Goals as goal
+use Rattle.litmus_semantics.proofs.same_text.expression.+is_same_loading.Goals as goal
 
 is_no_load : (one : Loading) (load : tree.Load) → ((own : Load) → one ≡ loadings.Load own → ⊥) → loading_of one ≡ tree.load load → ⊥
 is_no_load (loadings.Load own) load other e = other own refl

@@ -8,9 +8,9 @@ use Rattle.litmus_syntax.specs.declared.statement.Statement.{Statement}
 use Rattle.litmus_syntax.specs.declared.statement.Statement.TheVariants as statements
 use Rattle.litmus_syntax.specs.declared.statement.Statement.TheVariants.{For, If, IfElse, outs-For', outs-If', outs-IfElse', rolls-For, rolls-If, rolls-IfElse}
 use Rattle.litmus_syntax.specs.declared.statement.Statement.TheViews.{roll-Statement, roll-out-Statement}
-use Rattle.task_plan.proofs.same_text.statement.+same.Goals as goal
-use Rattle.task_plan.proofs.same_text.statement.+same.Goals.{is_if_else-then-is_same_expression, is_if_else-else-is_same_expression}
-use Rattle.task_plan.proofs.same_text.statement.+same.Goals.{is_loop-then-counter-register, is_loop-else-counter-register}
+use Rattle.litmus_semantics.proofs.same_text.statement.+same.Goals as goal
+use Rattle.litmus_semantics.proofs.same_text.statement.+same.Goals.{is_if_else-then-is_same_expression, is_if_else-else-is_same_expression}
+use Rattle.litmus_semantics.proofs.same_text.statement.+same.Goals.{is_loop-then-counter-register, is_loop-else-counter-register}
 
 -- blocks that are the same have as many statements
 as_many : (one other : List Statement) → block_of one ≡ block_of other → length one ≡ length other

@@ -5,7 +5,7 @@ use Rattle.litmus_syntax.specs.Views.{assignment_of, expression_of}
 use Rattle.litmus_syntax.specs.declared.expression.Expression.{Expression}
 use Rattle.litmus_syntax.specs.declared.statement.Assignment.{Assignment}
 use Rattle.litmus_syntax.specs.declared.statement.Assignment.TheVariants as assignments
-use Rattle.task_plan.proofs.same_text.assignment.is_same_assignment.Goals as goal
+use Rattle.litmus_semantics.proofs.same_text.assignment.is_same_assignment.Goals as goal
 
 to_no_register : (one : Assignment) (register : ℕ) (value : tree.Expression)
     → ((second : ℕ) (given : Expression) → one ≡ assignments.Register second given → ⊥)

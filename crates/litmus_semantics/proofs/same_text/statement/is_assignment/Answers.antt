@@ -5,7 +5,7 @@ use Rattle.litmus_syntax.specs.Views.{assignment_of, statement_of}
 use Rattle.litmus_syntax.specs.declared.statement.Statement.{Statement}
 use Rattle.litmus_syntax.specs.declared.statement.Statement.TheVariants as statements
 use Rattle.litmus_syntax.specs.declared.statement.Assignment.{Assignment}
-use Rattle.task_plan.proofs.same_text.statement.is_assignment.Goals as goal
+use Rattle.litmus_semantics.proofs.same_text.statement.is_assignment.Goals as goal
 
 other_is_no_assignment : (s : Statement) (data_race : Bool) (assignment : Assignment)
     → ((inside : Bool) (own : Assignment) → s ≡ statements.Assign inside own → ⊥)

@@ -5,7 +5,7 @@ use Rattle.litmus_syntax.specs.Views.{statement_of}
 use Rattle.litmus_syntax.specs.declared.statement.Statement.{Statement}
 use Rattle.litmus_syntax.specs.declared.statement.Statement.TheVariants as statements
 use Rattle.litmus_syntax.specs.declared.statement.Call.{Call}
-use Rattle.task_plan.proofs.same_text.statement.is_call.Goals as goal
+use Rattle.litmus_semantics.proofs.same_text.statement.is_call.Goals as goal
 
 other_is_no_call : (s : Statement) (call : Call) → ((own : Call) → s ≡ statements.Call own → ⊥) → statement_of s ≡ tree.call call → ⊥
 other_is_no_call (statements.Load l) call other e = cc

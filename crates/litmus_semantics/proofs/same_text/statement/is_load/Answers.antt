@@ -5,7 +5,7 @@ use Rattle.litmus_syntax.specs.Views.{load_of, statement_of}
 use Rattle.litmus_syntax.specs.declared.statement.Statement.{Statement}
 use Rattle.litmus_syntax.specs.declared.statement.Statement.TheVariants as statements
 use Rattle.litmus_syntax.specs.declared.expression.Load.{Load}
-use Rattle.task_plan.proofs.same_text.statement.is_load.Goals as goal
+use Rattle.litmus_semantics.proofs.same_text.statement.is_load.Goals as goal
 
 other_is_no_load : (s : Statement) (load : Load) → ((own : Load) → s ≡ statements.Load own → ⊥) → statement_of s ≡ tree.load_only (load_of load) → ⊥
 other_is_no_load (statements.Load l) load other e = other l refl
