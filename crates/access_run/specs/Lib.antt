@@ -5,3 +5,4 @@ pub mod Stamps
 pub mod Leads
 pub mod memory_operation
 pub mod Changes
+pub mod Loaded

@@ -17,6 +17,7 @@ pub mod Fallen
 pub mod Leads
 pub mod Waits
 pub mod Waiting
+pub mod OldValue
 pub mod Due
 pub mod Lending
 pub mod Shown

@@ -7,6 +7,7 @@ ghost use Rattle.slot_table.specs.declared.records.Record.{Record};
 ghost use Rattle.setup_access.specs.Due.{given_now, to_due};
 ghost use Rattle.setup_access.specs.FallsAt.{EndsLookUp, GivesAt, WatchingFalls};
 ghost use Rattle.setup_access.specs.Kept.{setting_with};
+ghost use Rattle.setup_access.specs.OldValue as olds;
 ghost use Rattle.setup_access.specs.Parts.{SetupLeft, WatchingLeft, after_name, after_refusal, made, setup_step};
 ghost use Rattle.slot_table.specs.index_order.Indices.{place_after, try_index};
 ghost use Rattle.setup_access.specs.PassLeft.{Given, GoesOnGiven, PassLeft, TurnLeft};
@@ -98,7 +99,28 @@ pub(crate) fn setup_watchpoint(setting: &Setting, begun: &Begun) -> Transition
     }
 }
 
+/// Of the two values that a watch has loaded the old one; 0 where it has loaded none.
+fn first_of(values: Option<(u64, u64)>) -> u64
+    ensures { result ≡ olds.first_of values }
+{
+    match values {
+        Some((first, _)) => first,
+        None => 0,
+    }
+}
+
 impl Setup {
+    /// The old value of the watch; 0 where none was loaded, or not yet.
+    pub(crate) fn old_value(self) -> u64
+        ensures { result ≡ olds.setup_old self }
+    {
+        match self {
+            Setup::Insert { .. } | Setup::Name { .. } | Setup::LoadOld { .. } => 0,
+            Setup::LoadNew { old, .. } => old,
+            Setup::Consume { values, .. } | Setup::HearFinder { values, .. } => first_of(values),
+        }
+    }
+
     #[inline(always)]
     pub(crate) fn next(self, setting: &Setting, access: &Access) -> Step
         ensures { (sites : AccessMap) → result ≡ setup_step (setting_with setting.now sites) access.now self }

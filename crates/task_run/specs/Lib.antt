@@ -4,6 +4,7 @@ pub mod Stands
 pub mod Position
 pub mod Stops
 pub mod Accesses
+pub mod Loaded
 pub mod Agrees
 pub mod Follows
 pub mod Due

@@ -39,6 +39,7 @@ impl<'a> TaskRun<'a> {
     ghost use Rattle.prepared_program.specs.program_sites.Sites.{AreSitesOf};
     ghost use Rattle.prepared_program.specs.declared.program_sites.settings.Settings.{Settings};
     ghost use Rattle.task_run.specs.Accesses.{begun_in, in_progress_of};
+    ghost use Rattle.task_run.specs.Loaded.{values_loaded};
     ghost use Rattle.task_run.specs.First.{setting_of};
     ghost use Rattle.slot_table.specs.Answer.{Answers};
     ghost use Rattle.slot_table.specs.declared.records.Record.{Record};
@@ -399,6 +400,14 @@ impl<'a> TaskRun<'a> {
             → (later : List Record) → result.now ≡ (stands_at leads later).progress.registers }
     {
         self.machine.progress.registers()
+    }
+
+    /// The old value of its watch, and what its access has read or its next exchange compares its cell with; 0 where
+    /// there is none. Other loaded values, as the new value of a watch, aren't among them.
+    pub fn values_loaded(&self) -> (u64, u64)
+        ensures { result ≡ values_loaded self.now }
+    {
+        (self.machine.checker.old_value(), self.stage.loaded())
     }
 
     /// The accesses of the task that are in progress, with what was decided of each as it began: the scoped assertions

@@ -1,6 +1,7 @@
 //! The part of its text that a task is in.
 
 ghost use Rattle.std.specs.Prelude.{◌≡◌};
+ghost use Rattle.task_run.specs.Loaded.{part_loaded};
 
 use access_run::AccessRun;
 use access_run::memory_operation::LockWait;
@@ -27,6 +28,21 @@ pub(crate) enum TaskStage<'a> {
 }
 
 impl<'a> TaskStage<'a> {
+    /// What the access has read, or its next exchange compares its cell with; 0 where there is none.
+    pub(crate) fn loaded(&self) -> u64
+        ensures { result ≡ part_loaded self.now }
+    {
+        match self {
+            TaskStage::Making(run, _) => run.loaded(),
+            TaskStage::Over
+            | TaskStage::Stopped
+            | TaskStage::Opening
+            | TaskStage::Closing
+            | TaskStage::Locking(_, _)
+            | TaskStage::Unlocking(_) => 0,
+        }
+    }
+
     /// The same once more.
     pub(crate) fn copy(&self) -> TaskStage<'a>
         ensures { result ≡ self.now }

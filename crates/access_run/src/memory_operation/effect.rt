@@ -1,6 +1,6 @@
 //! What comes of an operation on memory.
 
-ghost use Rattle.std.specs.Prelude.{◌≡◌};
+ghost use Rattle.std.specs.Prelude.{◌≡◌, unwrap_or};
 ghost use Rattle.access_run.specs.memory_operation.Effects as spec;
 
 use crate::memory_operation::operation::Change;
@@ -47,6 +47,16 @@ impl Effect {
             _ => Some(old),
         };
         Effect { read, written }
+    }
+
+    /// The value that was read; 0 where none was.
+    pub(crate) fn value_read(self) -> u64
+        ensures { result ≡ unwrap_or self.read 0 }
+    {
+        match self.read {
+            Some(value) => value,
+            None => 0,
+        }
     }
 
     /// What comes of this and of what is later.

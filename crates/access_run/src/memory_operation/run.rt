@@ -24,6 +24,7 @@ impl OperationRun {
     ghost use Rattle.std.specs.Prelude.{◌≡◌, ◌↔◌, ◌++◌, ◌∷◌, [], ℕ, List, IfSome, IsNone, IsTrue};
     ghost use Rattle.access_types.specs.Access as accesses;
     ghost use Rattle.access_run.specs.Changes.{operation_changes};
+    ghost use Rattle.access_run.specs.Loaded.{operation_loaded};
     ghost use Rattle.access_run.specs.memory_operation.Effects.{did};
     ghost use Rattle.access_run.specs.memory_operation.Leads.{IsComplete, IsDone, IsOperationOver, IsStuck, Leads, OnlyStep, Says};
     ghost use Rattle.access_run.specs.declared.memory_operation.operation.Operation.{Operation};
@@ -68,6 +69,17 @@ impl OperationRun {
         match self.stage {
             OperationStage::Over | OperationStage::Load(Operation::Load) => false,
             OperationStage::Load(_) | OperationStage::Exchange { .. } => true,
+        }
+    }
+
+    /// Where an exchange is next, the word that this compares its cell with; else the value that was read of the bytes,
+    /// and 0 where none was, as by a write.
+    pub fn loaded(&self) -> u64
+        ensures { result ≡ operation_loaded self.now.effect self.now.stage }
+    {
+        match self.stage {
+            OperationStage::Exchange { seen, .. } => seen,
+            OperationStage::Over | OperationStage::Load(_) => self.effect.value_read(),
         }
     }
 
