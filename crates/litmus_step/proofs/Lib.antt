@@ -5,6 +5,7 @@ pub mod OrderLemmas
 pub mod TurnLemmas
 pub mod FurtherLemmas
 pub mod MakeLemmas
+pub mod UnloggedLemmas
 pub mod RoundLemmas
 pub mod KeptLemmas
 pub mod ReaderLemmas

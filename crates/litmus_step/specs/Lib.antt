@@ -1,5 +1,6 @@
 pub mod Runs
 pub mod Kept
+pub mod Unlogged
 pub mod Leads
 pub mod Copies
 pub mod Steps

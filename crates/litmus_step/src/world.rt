@@ -1,7 +1,7 @@
 //! The world: all tasks of a program over one board.
 
 ghost use Rattle.std.specs.Prelude.{◌≡◌, ◌≢◌, ◌<◌, ◌≤◌, ◌↔◌, ◌⊎◌, ◌∷◌, [], ℕ, List, Option, Some, IfErr, IfOk, IsErrOf, slice_get, slice_set};
-ghost use Rattle.std.specs.Prelude.{vec_capacity, vec_len};
+ghost use Rattle.std.specs.Prelude.{IsTrue, vec_capacity, vec_len};
 ghost use Rattle.std.specs.Arc.{arc_value};
 ghost use Rattle.litmus_syntax.specs.Limits.{KeepsLimits};
 ghost use Rattle.litmus_syntax.specs.Views.{program_of};
@@ -12,6 +12,9 @@ ghost use Rattle.setup_access.specs.Parts.{made};
 ghost use Rattle.slot_table.specs.declared.records.Record.{Record};
 ghost use Rattle.litmus_step.specs.Leads.{IsLedTo, MakesNextIn};
 ghost use Rattle.litmus_step.specs.Kept.{Added, IsNotedIn, rooms_of};
+ghost use Rattle.litmus_step.specs.Unlogged as spec;
+ghost use Rattle.setup_access.specs.declared.begun.Begun.{Begun};
+ghost use Rattle.task_run.specs.Fell.{fell_of};
 ghost use Rattle.prepared_program.specs.program_sites.Prepared.{IsPrepared, IsReady, sites_in};
 ghost use Rattle.litmus_step.specs.Runs.{HasEnded, IsStuck, run_of};
 ghost use Rattle.prepared_program.specs.declared.program_sites.error.RunError.TheVariants.{BadPlace, BadSlots};
@@ -69,6 +72,64 @@ fn note_in(logs: &mut Vec<TaskLog>, reports: &mut Vec<Report>, task: usize, note
     ensures each { rooms_of logs.new.items ≡ rooms_of logs.old.items }
 {
     note(&mut logs[task], reports, noted);
+}
+
+/// A step of a task of which a log says nothing, unless an outcome falls at it, is noted where one does: the machine that
+/// made it tells. Which access begins by it is no matter.
+#[inline(always)]
+fn note_fallen(
+    logs: &mut Vec<TaskLog>,
+    reports: &mut Vec<Report>,
+    task: usize,
+    run: &TaskRun<'_>,
+    step: Step,
+    answer: Answer,
+)
+    requires there { task < vec_len logs.old }
+    requires unlogged { IsTrue (spec.is_unlogged step) }
+    ensures noted { (begins : Option Begun) (log : TaskLog) → slice_get logs.old.items task ≡ Some log
+        → (after : TaskLog) × (report : Option Report)
+        × IsNotedIn log (record { step = step; answer = answer; begins = begins; outcome = fell_of run.now }) after report
+        × (logs.new.items ≡ slice_set logs.old.items task after)
+        × Added report (vec_capacity reports.old) reports.old.items reports.new.items }
+    ensures room { vec_capacity reports.new ≡ vec_capacity reports.old }
+    ensures logs { vec_capacity logs.new ≡ vec_capacity logs.old }
+    ensures each { rooms_of logs.new.items ≡ rooms_of logs.old.items }
+{
+    let outcome = run.last_outcome();
+    if outcome.is_none() {
+        return;
+    }
+    let noted = Noted {
+        step,
+        answer,
+        begins: None,
+        outcome,
+    };
+    note_in(logs, reports, task, &noted);
+}
+
+/// Whether a log says nothing of such a step, unless an outcome falls at it.
+#[inline(always)]
+fn is_unlogged(step: Step) -> bool
+    ensures { result ≡ spec.is_unlogged step }
+{
+    match step {
+        Step::Load(_)
+        | Step::PairLoad(_)
+        | Step::CellLoad(_)
+        | Step::CellExchange(_, _, _)
+        | Step::LockTry(_, _)
+        | Step::LockStore(_) => true,
+        Step::Insert(_, _)
+        | Step::TryConsume(_, _)
+        | Step::Consume(_)
+        | Step::Remove(_)
+        | Step::Name(_, _)
+        | Step::Tell(_, _)
+        | Step::Clear(_)
+        | Step::Clock => false,
+    }
 }
 
 impl<'a> World<'a> {
@@ -171,6 +232,54 @@ impl<'a> World<'a> {
     /// A task makes this step, which is its next: what it is answered.
     #[inline(always)]
     pub fn make(&mut self, task: usize, step: Step) -> Answer
+        requires there { task < tasks_in self.old }
+        requires next { MakesNextIn self.old.tasks.items task step }
+        ensures moves { (run : Run) (records : List Record) → LeadsTo run records self.old
+            → LeadsTo run (made task step result ∷ records) self.new }
+        ensures others { (other : ℕ) → task ≢ other → slice_get self.new.tasks.items other ≡ slice_get self.old.tasks.items other }
+        ensures tasks { tasks_in self.new ≡ tasks_in self.old }
+        ensures sites { self.new.sites ≡ self.old.sites }
+        ensures room { room_in self.new ≡ room_in self.old }
+    {
+        // Most steps are such. Nothing is copied for them: what a step is noted by is larger than all else it touches.
+        if is_unlogged(step) {
+            return self.make_unlogged(task, step);
+        }
+        self.make_logged(task, step)
+    }
+
+    /// A task makes this step, which is its next, and of which a log says nothing unless an outcome falls at it.
+    #[inline(always)]
+    fn make_unlogged(&mut self, task: usize, step: Step) -> Answer
+        requires there { task < tasks_in self.old }
+        requires next { MakesNextIn self.old.tasks.items task step }
+        requires unlogged { IsTrue (spec.is_unlogged step) }
+        ensures moves { (run : Run) (records : List Record) → LeadsTo run records self.old
+            → LeadsTo run (made task step result ∷ records) self.new }
+        ensures others { (other : ℕ) → task ≢ other → slice_get self.new.tasks.items other ≡ slice_get self.old.tasks.items other }
+        ensures tasks { tasks_in self.new ≡ tasks_in self.old }
+        ensures sites { self.new.sites ≡ self.old.sites }
+        ensures room { room_in self.new ≡ room_in self.old }
+    {
+        law_steps_lead_on();
+        law_steps_are_kept();
+        let answer = self.board.step(step);
+        self.tasks[task].answer(step, answer);
+        self.steps = self.steps.saturating_add(1);
+        note_fallen(
+            &mut self.logs,
+            &mut self.reports,
+            task,
+            &self.tasks[task],
+            step,
+            answer,
+        );
+        answer
+    }
+
+    /// A task makes this step, which is its next, and it is noted.
+    #[inline(always)]
+    fn make_logged(&mut self, task: usize, step: Step) -> Answer
         requires there { task < tasks_in self.old }
         requires next { MakesNextIn self.old.tasks.items task step }
         ensures moves { (run : Run) (records : List Record) → LeadsTo run records self.old

@@ -11,7 +11,7 @@ use Rattle.litmus_step.proofs.PointLemmas.{world_points}
 use Rattle.litmus_step.proofs.RoomLemmas.{same_mapped}
 use Rattle.litmus_step.proofs.StepLemmas.{set_other}
 use Rattle.litmus_step.proofs.TurnLemmas.{same_machine}
-use Rattle.litmus_step.proofs.world.World.make.Goals as goal
+use Rattle.litmus_step.proofs.world.World.make_logged.Goals as goal
 use Rattle.litmus_step.specs.Kept.{rooms_of}
 use Rattle.litmus_step.specs.Steps.{Room}
 use Rattle.task_log.specs.Keeps as task_log
