@@ -9,13 +9,13 @@ ghost use Rattle.access_types.specs.Ticket.{ticket_number};
 use crate::access::Access;
 use crate::tickets::ticket;
 use std::alloc::{AllocError, Global};
-use std::collections::BTreeMap;
+use std::collections::HashMap;
 use std::marker::Model;
 
 /// The accesses of a program, each under its ticket.
 #[derive(Drop)]
 pub struct Sites {
-    accesses: BTreeMap<u32, Access>,
+    accesses: HashMap<u32, Access>,
 }
 
 impl Model for Sites {
@@ -39,7 +39,7 @@ impl Sites {
         ensures { result ≡ map.empty }
     {
         Sites {
-            accesses: BTreeMap::new(alloc),
+            accesses: HashMap::new(alloc),
         }
     }
 
