@@ -2,6 +2,8 @@
 #![tactic(auto)]
 
 pub mod arguments;
+pub mod colors;
+pub mod kernel_config;
 pub mod program;
 pub mod request;
 pub mod version;

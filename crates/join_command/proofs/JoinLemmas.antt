@@ -12,9 +12,9 @@ use Rattle.file_commands.specs.declared.complaint.Complaint.TheVariants as compl
 use Rattle.file_commands.specs.declared.failure.Failure.TheVariants as failure
 use Rattle.join_command.specs.Reads.{AreRead, once_given}
 use Rattle.join_command.specs.Told.{IsSaidOf, IsUnjoined, part_bytes}
-use Rattle.part_file.specs.Texts.{text_of}
-use Rattle.part_file.specs.Views.{part_view}
-use Rattle.part_file.specs.declared.part.Part.{Part}
+use Rattle.part_search.specs.part_file.Texts.{text_of}
+use Rattle.part_search.specs.part_file.Views.{part_view}
+use Rattle.part_search.specs.declared.part_file.part.Part.{Part}
 
 -- a line is told, or there is no memory for it
 pub said_so : (Holds : List ℕ → Type 0) (line : Result (Vec ℕ Global) AllocError) (said : Complaint) → IfOk line (λ own. Holds own.items)

@@ -16,8 +16,8 @@ use Rattle.join_command.specs.Joined.{HaveNoText, IsJoinedText, IsSettingsOf}
 use Rattle.join_command.specs.Reads.{AreLeft, AreRead, StopsReading}
 use Rattle.join_command.specs.Told.{AreNoWhole}
 use Rattle.join_command.specs.declared.joining.Source.{Source}
-use Rattle.part_file.specs.Wholes.{AreWhole}
-use Rattle.part_file.specs.declared.part.Part.{Part}
+use Rattle.part_search.specs.part_file.Wholes.{AreWhole}
+use Rattle.part_search.specs.declared.part_file.part.Part.{Part}
 use Rattle.prepared_program.specs.declared.program_sites.settings.Settings.{Settings}
 use Rattle.run_output.specs.declared.error.EngineError.{EngineError}
 use Rattle.search_output.specs.declared.text.SearchText.{SearchText}

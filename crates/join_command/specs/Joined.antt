@@ -1,7 +1,7 @@
 -- What the parts of a search give when they are joined.
 use Rattle.std.specs.Prelude.{◌≡◌, ℕ, Bool, List, Option, false}
-use Rattle.part_file.specs.Views.{part_view}
-use Rattle.part_file.specs.declared.part.Part.{Part}
+use Rattle.part_search.specs.part_file.Views.{part_view}
+use Rattle.part_search.specs.declared.part_file.part.Part.{Part}
 use Rattle.part_search.specs.Joined.{AreOfOneSearch, IsMemory, TextIsJoined}
 use Rattle.part_search.specs.Settings.{GoesBy, wanted_of}
 use Rattle.prepared_program.specs.declared.program_sites.settings.Settings.{Settings}

@@ -10,9 +10,9 @@ use Rattle.file_commands.specs.declared.complaint.Complaint.{Complaint}
 use Rattle.file_commands.specs.declared.complaint.Complaint.TheVariants as complaints
 use Rattle.file_commands.specs.declared.failure.Failure.TheVariants as failure
 use Rattle.join_command.specs.Told.{IsNoPart, IsUnjoined, line_on, part_bytes}
-use Rattle.part_file.specs.Texts.{text_of}
-use Rattle.part_file.specs.Views.{part_view}
-use Rattle.part_file.specs.declared.part.Part.{Part}
+use Rattle.part_search.specs.part_file.Texts.{text_of}
+use Rattle.part_search.specs.part_file.Views.{part_view}
+use Rattle.part_search.specs.declared.part_file.part.Part.{Part}
 use Rattle.report_text.specs.Sink.{CountsFailure}
 
 -- once the file of a name gave this text

@@ -9,16 +9,16 @@ use Rattle.diagnostics.specs.declared.check_output.told.Lines.{Lines}
 use Rattle.file_commands.specs.declared.complaint.Complaint.{Complaint}
 use Rattle.file_commands.specs.declared.complaint.Complaint.TheVariants as complaints
 use Rattle.file_commands.specs.declared.failure.Failure.TheVariants as failure
-use Rattle.part_file.specs.Texts.{IsTextOf}
-use Rattle.part_file.specs.Views.{PartView}
-use Rattle.part_file.specs.Wholes.{IsFault}
-use Rattle.part_file.specs.declared.part.Part.{Part}
-use Rattle.part_file.specs.declared.text.PartError.{PartError}
-use Rattle.part_file.specs.declared.text.PartError.TheVariants as errors
-use Rattle.part_file.specs.declared.whole.PartFault.{PartFault}
-use Rattle.part_file.specs.declared.whole.PartFault.TheVariants as faults
-use Rattle.part_file.specs.declared.whole.PartsFault.{PartsFault}
-use Rattle.part_file.specs.declared.whole.PartsFault.TheVariants as whole_faults
+use Rattle.part_search.specs.part_file.Texts.{IsTextOf}
+use Rattle.part_search.specs.part_file.Views.{PartView}
+use Rattle.part_search.specs.part_file.Wholes.{IsFault}
+use Rattle.part_search.specs.declared.part_file.part.Part.{Part}
+use Rattle.part_search.specs.declared.part_file.text.PartError.{PartError}
+use Rattle.part_search.specs.declared.part_file.text.PartError.TheVariants as errors
+use Rattle.part_search.specs.declared.part_file.whole.PartFault.{PartFault}
+use Rattle.part_search.specs.declared.part_file.whole.PartFault.TheVariants as faults
+use Rattle.part_search.specs.declared.part_file.whole.PartsFault.{PartsFault}
+use Rattle.part_search.specs.declared.part_file.whole.PartsFault.TheVariants as whole_faults
 use Rattle.program_table.specs.text_pieces.Shown.{shown}
 
 -- a part has at most so many bytes: 1 GiB

@@ -15,7 +15,7 @@ use file_commands::desk::Desk;
 use file_commands::failure::{Failure, NO_REPORT, REPORTED, STOPPED};
 use file_search::additions::{Additions, with_additions};
 use litmus_step::Settings;
-use part_file::{Part, check_parts};
+use part_search::part_file::{Part, check_parts};
 use part_search::{joined_text, settings_of_part};
 use run_output::Written;
 use search_output::SearchText;

@@ -4,15 +4,15 @@ ghost use Rattle.std.specs.Prelude.{◌≡◌, ◌⊎◌, IfErr, IfOk, length, t
 ghost use Rattle.file_commands.specs.Check.{IsLeftOver};
 ghost use Rattle.file_commands.specs.Desks.{DeskState};
 ghost use Rattle.join_command.specs.Reads.{AreLeft, AreRead, CannotBeRead, IsRefusedText, IsStopped, StopsReading, once_given};
-ghost use Rattle.part_file.specs.Texts.{text_of};
-ghost use Rattle.part_file.specs.Views.{part_view};
+ghost use Rattle.part_search.specs.part_file.Texts.{text_of};
+ghost use Rattle.part_search.specs.part_file.Views.{part_view};
 
 use crate::told::{error_words, refused};
 use diagnostics::check_output::{Lines, unread_line};
 use file_commands::complaint::Complaint;
 use file_commands::desk::{Desk, ReadFault};
 use file_commands::failure::Failure;
-use part_file::{Part, read_part};
+use part_search::part_file::{Part, read_part};
 use std::alloc::Global;
 
 /// A part has at most so many bytes: 1 GiB. A file that has more is refused.

@@ -3,12 +3,12 @@
 ghost use Rattle.std.specs.Prelude.{◌≡◌, ◌⊎◌, IfOk, length, option_map};
 ghost use Rattle.join_command.specs.Told as spec;
 ghost use Rattle.join_command.specs.Told.{IsFaultLine, IsUnjoined};
-ghost use Rattle.part_file.specs.Wholes.{IsFault};
+ghost use Rattle.part_search.specs.part_file.Wholes.{IsFault};
 
 use diagnostics::check_output::Lines;
 use file_commands::complaint::Complaint;
 use file_commands::failure::Failure;
-use part_file::{Part, PartError, PartFault, PartsFault};
+use part_search::part_file::{Part, PartError, PartFault, PartsFault};
 use program_table::text_pieces::{joined, number, shown};
 use std::alloc::{AllocError, Global};
 

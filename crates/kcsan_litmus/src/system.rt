@@ -7,7 +7,7 @@ use crate::locale;
 use crate::unread::{is_of_reading, reason_line, refusal_lines};
 use crate::whole_file::write_whole;
 use crate::words::input_path;
-use colors::colored;
+use cli::colors::colored;
 use diagnostics::check_output::Lines;
 use file_commands::complaint::Complaint;
 use file_commands::desk::{Desk, ReadFault};

@@ -4,7 +4,7 @@
 ghost use Rattle.std.specs.Prelude.{◌≡◌, ◌==◌, bytes_eq, string_bytes};
 ghost use Rattle.std.specs.List.{before_first, list_any};
 
-use kernel_config::{KernelConfig, MEANINGLESS, is_set};
+use cli::kernel_config::{KernelConfig, MEANINGLESS, is_set};
 use std::alloc::AllocError;
 use std::{env, fs, io};
 

@@ -2,7 +2,7 @@
 use Rattle.std.specs.Prelude.{◌≡◌, ◌<◌, ◌==◌, ◌⊎◌, ℕ, List, [], Option, Bool, IfSome, IsTrue, false, length, not}
 use Rattle.access_types.specs.Sites.{AccessMap}
 use Rattle.litmus_parse.specs.Read.{IsReadAs}
-use Rattle.printed_reports.specs.Printed.{printed_reports}
+use Rattle.report_text.specs.printed_reports.Printed.{printed_reports}
 use Rattle.prepared_program.specs.declared.program_sites.error.RunError.{RunError}
 use Rattle.prepared_program.specs.declared.program_sites.error.RunError.TheVariants.{BadPlace, BadSchedule, BadSlots, NoThread, OutOfMemory, Stuck}
 use Rattle.run_output.specs.Output.{IsOutput}

@@ -6,7 +6,7 @@ use Rattle.file_commands.specs.declared.failure.Failure.TheVariants.{BadPlace, B
 use Rattle.file_commands.specs.declared.failure.Failure.TheVariants as failures
 use Rattle.litmus_parse.specs.Read.{IsReadAs}
 use Rattle.litmus_syntax.specs.declared.program.Program.{Program}
-use Rattle.picture_source.specs.Source.{AreLabelsIn}
+use Rattle.source_places.specs.picture_source.Source.{AreLabelsIn}
 use Rattle.picture_text.specs.Text.{detailed_picture}
 use Rattle.run_output.specs.declared.error.EngineError.{EngineError}
 use Rattle.run_output.specs.declared.error.EngineError.TheVariants as engine

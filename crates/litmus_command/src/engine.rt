@@ -10,7 +10,7 @@ ghost use Rattle.litmus_step.specs.Steps.{LeadsTo};
 ghost use Rattle.litmus_syntax.specs.Limits.{KeepsLimits};
 ghost use Rattle.litmus_syntax.specs.Views.{program_of};
 ghost use Rattle.prepared_program.specs.program_sites.Prepared.{sites_in};
-ghost use Rattle.printed_reports.specs.Printed.{printed_reports};
+ghost use Rattle.report_text.specs.printed_reports.Printed.{printed_reports};
 ghost use Rattle.run_output.specs.Output.{IsOutput, output_text};
 ghost use Rattle.run_output.specs.Traces.{IsToBeAccepted, IsTraceOf};
 ghost use Rattle.run_output.specs.declared.error.EngineError.TheVariants.{SinkFailed, Text};
@@ -24,8 +24,8 @@ use access_types::{Report, Sites};
 use litmus_parse::{Limit, ParseError, Program, parse};
 use litmus_step::{Prepared, Settings, World};
 use prepared_program::step_schedule::Schedule;
-use printed_reports::printed_reports;
 use report_text::MemorySink;
+use report_text::printed_reports::printed_reports;
 use run_output::{EngineError, RunFindings, Written, found_of, trace_if, write_output};
 use std::alloc::{AllocError, Global};
 

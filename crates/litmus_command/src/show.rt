@@ -6,7 +6,7 @@ ghost use Rattle.std.specs.Option.{option_map};
 ghost use Rattle.litmus_command.specs.Show.{IsDrawn, IsDrawnBy, IsNotDrawn, IsPictureDrawn, IsUnsuited};
 ghost use Rattle.litmus_syntax.specs.Limits.{KeepsLimits};
 ghost use Rattle.litmus_syntax.specs.Views.{program_of};
-ghost use Rattle.picture_source.specs.Source.{AreLabelsIn};
+ghost use Rattle.source_places.specs.picture_source.Source.{AreLabelsIn};
 ghost use Rattle.picture_text.specs.Text.{detailed_picture};
 ghost use Rattle.timeline.specs.picture.Drawn.{IsUndrawn};
 ghost use Rattle.timeline.specs.picture.Ordered.{IsOrdered};
@@ -15,11 +15,11 @@ ghost use Rattle.file_commands.specs.declared.failure.Failure.TheVariants as fai
 
 use file_commands::failure::Failure;
 use litmus_parse::{Reading, read_text};
-use picture_source::{labels_of, test_of};
 use picture_svg::svg_bytes;
 use picture_text::{Details, Style, write_detailed_picture};
 use report_text::MemorySink;
 use run_output::{EngineError, Written};
+use source_places::picture_source::{labels_of, test_of};
 use std::alloc::{AllocError, Global};
 use timeline::picture::labels::Label;
 use timeline::picture::{Picture, PictureError, picture_of};

@@ -25,7 +25,7 @@ use Rattle.prepared_program.specs.program_sites.Sites as sites
 use Rattle.prepared_program.specs.program_sites.Sites.{AreSitesOf}
 use Rattle.executions.specs.execution.Run.{AreItsSites, IsOfProgram, Run, idle, task_of, task_setting}
 use Rattle.executions.specs.execution.Execution.{InWrittenOrder, Execution}
-use Rattle.task_laws.specs.Fits.{ArePlaced}
+use Rattle.task_plan.specs.task_laws.Fits.{ArePlaced}
 use Rattle.litmus_step.specs.Leads.{LeadsTask}
 use Rattle.litmus_step.specs.Runs.{CanBeMade, run_of, tasks_of}
 use Rattle.prepared_program.specs.declared.program_sites.settings.Settings.{Settings}

@@ -7,7 +7,7 @@ use Rattle.litmus_syntax.specs.declared.program.Program.{Program}
 use Rattle.prepared_program.specs.program_layout.Places.{places_of}
 pub use Rattle.executions.specs.execution.Ended.{HasEnded, IsStuck, tasks_of}
 use Rattle.executions.specs.execution.Run.{Run, task_setting}
-use Rattle.task_laws.specs.Fits.{ArePlaced}
+use Rattle.task_plan.specs.task_laws.Fits.{ArePlaced}
 use Rattle.prepared_program.specs.program_sites.Settings.{rules_of}
 use Rattle.prepared_program.specs.declared.program_sites.settings.Settings.{Settings}
 

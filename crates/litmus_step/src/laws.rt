@@ -59,8 +59,8 @@ use log_correctness::standing::{
     law_ended_tasks_stand_at_the_end, law_machines_stand_where_the_records_tell,
 };
 use soundness::histories::law_executions_tell_runs_of_the_program;
-use task_laws::laws::law_an_answer_leads_on;
-use task_laws::spelled::{
+use task_plan::task_laws::laws::law_an_answer_leads_on;
+use task_plan::task_laws::spelled::{
     law_texts_within_limits_are_spelled, law_variables_of_programs_are_placed,
 };
 use task_run::laws::law_no_task_stops;

@@ -7,7 +7,7 @@ use Rattle.file_commands.specs.FileWork.{AreSearched, Asked, FileFound, IsLooked
 use Rattle.page_command.specs.Told.{IsTold}
 use Rattle.page_command.specs.declared.looks.AllLooked.{AllLooked}
 use Rattle.page_command.specs.declared.looks.Looked.{Looked}
-use Rattle.page_findings.specs.declared.file.FileFound as findings
+use Rattle.race_page.specs.declared.page_findings.file.FileFound as findings
 use Rattle.prepared_program.specs.declared.program_sites.settings.Settings.{Settings}
 use Rattle.race_output.specs.declared.file.Format.{Format}
 use Rattle.race_page.specs.declared.values.FileEnd.TheVariants as ends

@@ -3,8 +3,8 @@ use Rattle.std.specs.Prelude.{◌≡◌, ℕ, List, [], Vec, codes}
 use Rattle.std.specs.Global.{Global}
 use Rattle.diagnostics.specs.check_output.Diagnosis.{Diagnosis, Gave, Lost, name_of}
 use Rattle.file_commands.specs.FileWork.{FileFound, PassedOver, Refused, Searched, refusal_in, refusal_of}
-use Rattle.page_findings.specs.Results.{AreFindingsOfText}
-use Rattle.page_findings.specs.declared.file.FileFound as findings
+use Rattle.race_page.specs.page_findings.Results.{AreFindingsOfText}
+use Rattle.race_page.specs.declared.page_findings.file.FileFound as findings
 use Rattle.prepared_program.specs.declared.program_sites.settings.Settings.{Settings}
 use Rattle.race_output.specs.declared.file.Format.{Format}
 use Rattle.race_output.specs.declared.words.FileVerdict.{FileVerdict}

@@ -20,7 +20,7 @@ use file_commands::files::{
 use file_search::work::{RacesWork, TextFound, Work, from_now, worse};
 use litmus_parse::FILE_BYTES;
 use litmus_step::Settings;
-use page_findings::{FileFound, file_findings};
+use race_page::page_findings::{FileFound, file_findings};
 use race_page::{FileEnd, FileTold};
 use search_formats::Refusal;
 use search_formats::refusal::refusal_text;

@@ -9,9 +9,9 @@ use Rattle.std.proofs.lemmas.List.{map-append}
 use Rattle.std.proofs.lemmas.List.Folds.{list_any-append}
 use Rattle.std.proofs.lemmas.List.Elements.{Contains-append_left}
 use Rattle.std.proofs.lemmas.List.Sorted.{Contains-permutation, IsPermutation-pop_more, IsPermutation-sym, list_any-IsPermutation}
-use Rattle.part_file.specs.Wholes.{has_number}
+use Rattle.part_search.specs.part_file.Wholes.{has_number}
 use Rattle.part_search.specs.Order.{AreInOrder, numbers_to}
-use Rattle.part_file.specs.declared.part.Part.{Part}
+use Rattle.part_search.specs.declared.part_file.part.Part.{Part}
 
 -- an element passes the test, or none does up to the end
 none_of : {X : Type 0} (p : X → Bool) (x : X) (xs : List X) (b : Bool) → p x ≡ b

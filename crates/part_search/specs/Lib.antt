@@ -2,3 +2,4 @@ pub mod Settings
 pub mod Parted
 pub mod Order
 pub mod Joined
+pub mod part_file

@@ -1,7 +1,7 @@
 -- Parts in the order of their numbers.
 use Rattle.std.specs.Prelude.{◌≡◌, ◌+◌, ◌++◌, ◌∷◌, ◌≤◌, [], ℕ, zero, suc, Contains, IsTrue, List, map}
-use Rattle.part_file.specs.Wholes.{has_number}
-use Rattle.part_file.specs.declared.part.Part.{Part}
+use Rattle.part_search.specs.part_file.Wholes.{has_number}
+use Rattle.part_search.specs.declared.part_file.part.Part.{Part}
 
 -- the numbers from 1 to this one
 abbrev pub numbers_to : ℕ → List ℕ

@@ -1,7 +1,7 @@
 -- What a search goes by, and how a part tells it.
 use Rattle.std.specs.Prelude.{◌≡◌, false}
-use Rattle.part_file.specs.Views.{PartView}
-use Rattle.part_file.specs.declared.part.PartSettings.{PartSettings}
+use Rattle.part_search.specs.part_file.Views.{PartView}
+use Rattle.part_search.specs.declared.part_file.part.PartSettings.{PartSettings}
 use Rattle.prepared_program.specs.declared.program_sites.settings.Settings.{Settings}
 use Rattle.search_run.specs.declared.wanted.Wanted.{Wanted}
 

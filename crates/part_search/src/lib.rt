@@ -8,6 +8,7 @@
 
 pub mod joined;
 pub mod order;
+pub mod part_file;
 pub mod parted;
 pub mod settings;
 mod stops;

@@ -2,10 +2,10 @@
 
 ghost use Rattle.std.specs.Prelude.{◌≡◌, ◌==◌, ◌∷◌, IfOk, MatchOption, false, position};
 ghost use Rattle.std.specs.List.Sorted.{IsPermutation};
-ghost use Rattle.part_file.specs.Wholes.{has_number};
+ghost use Rattle.part_search.specs.part_file.Wholes.{has_number};
 ghost use Rattle.part_search.specs.Order.{AreInOrder, HasAll};
 
-use part_file::Part;
+use crate::part_file::Part;
 use std::alloc::{AllocError, Global};
 
 /// Where the first part of a number stands, if there is one.

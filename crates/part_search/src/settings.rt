@@ -1,14 +1,14 @@
 //! What a search goes by, and how a part tells it.
 
 ghost use Rattle.std.specs.Prelude.{◌≡◌, ◌<◌, ◌^◌, IfOk};
-ghost use Rattle.part_file.specs.Views.{part_view};
-ghost use Rattle.part_file.specs.declared.part.PartSettings as told;
+ghost use Rattle.part_search.specs.part_file.Views.{part_view};
+ghost use Rattle.part_search.specs.declared.part_file.part.PartSettings as told;
 ghost use Rattle.part_search.specs.Settings as spec;
 ghost use Rattle.part_search.specs.Settings.{GoesBy};
 
+use crate::part_file::{Part, PartSettings};
 use litmus_step::Settings;
 use litmus_syntax::Name;
-use part_file::{Part, PartSettings};
 use prepared_program::program_layout::Place;
 use search_run::Wanted;
 use std::alloc::{AllocError, Global};

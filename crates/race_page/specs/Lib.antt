@@ -9,3 +9,4 @@ pub mod Pairs
 pub mod Sites
 pub mod Tags
 pub mod Verdicts
+pub mod page_findings

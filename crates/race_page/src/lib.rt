@@ -9,6 +9,7 @@ pub mod listing;
 pub mod looks;
 pub mod marks;
 pub mod page;
+pub mod page_findings;
 pub mod pairs;
 pub mod sites;
 pub mod values;

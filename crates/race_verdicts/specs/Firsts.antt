@@ -4,7 +4,7 @@ use Rattle.executions.specs.execution.Run.{Run}
 use Rattle.litmus_step.specs.Steps.{LeadsTo}
 use Rattle.prepared_program.specs.declared.program_sites.settings.Settings.{Settings}
 use Rattle.race_verdicts.specs.declared.firsts.Firsts.{Firsts}
-use Rattle.unwatched_executions.specs.Unwatched.{never, unwatched}
+use Rattle.race_search.specs.unwatched_executions.Unwatched.{never, unwatched}
 
 -- the same settings, under which no access is watched
 abbrev pub unwatched_settings : Settings → Settings

@@ -7,3 +7,4 @@ pub mod Standing
 pub mod Truth
 pub mod Faults
 pub mod Groups
+pub mod printed_reports

@@ -8,6 +8,7 @@ pub mod laws;
 pub mod line;
 pub mod memory;
 pub mod pieces;
+pub mod printed_reports;
 pub mod report;
 pub mod sink;
 pub mod trace;

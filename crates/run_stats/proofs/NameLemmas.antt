@@ -14,7 +14,7 @@ use Rattle.litmus_syntax.specs.Views.{program_of}
 use Rattle.litmus_syntax.specs.declared.program.Program.{Program}
 use Rattle.prepared_program.specs.program_layout.Places.{places_of}
 use Rattle.prepared_program.specs.program_sites.Sites.{AreSitesOf}
-use Rattle.printed_reports.specs.Printed.{is_printed, printed_reports}
+use Rattle.report_text.specs.printed_reports.Printed.{is_printed, printed_reports}
 use Rattle.report_text.specs.ReportOf.{NamesAccesses}
 use Rattle.soundness.specs.Reported.{IsTrueReport}
 use Rattle.log_correctness.specs.Setters.{is_by, reports_by}

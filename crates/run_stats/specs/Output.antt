@@ -8,7 +8,7 @@ use Rattle.litmus_syntax.specs.Views.{program_of}
 use Rattle.litmus_syntax.specs.declared.program.Program.{Program}
 use Rattle.prepared_program.specs.program_layout.Places.{AreFit, places_of}
 use Rattle.prepared_program.specs.program_sites.Sites.{AreSitesOf}
-use Rattle.printed_reports.specs.Printed.{printed_reports}
+use Rattle.report_text.specs.printed_reports.Printed.{printed_reports}
 use Rattle.report_text.specs.Groups.{AreGroupsOf, Group, group_text}
 use Rattle.report_text.specs.ReportOf.{report_text}
 use Rattle.run_output.specs.Lines.{condition_line, counters_line, stuck_line}

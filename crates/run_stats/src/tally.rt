@@ -18,7 +18,7 @@ ghost use Rattle.runner.specs.Result.{IsRunOnce};
 use access_types::{Report, Sites};
 use litmus_parse::Program;
 use litmus_step::Prepared;
-use printed_reports::printed_reports;
+use report_text::printed_reports::printed_reports;
 use report_text::{Groups, Sink, WriteError};
 use run_output::{found_of, write_condition, write_counters};
 use runner::RunResult;

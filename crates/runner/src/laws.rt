@@ -54,7 +54,7 @@ use soundness::verdicts::{
     law_answers_are_on_a_watch_and_a_find, law_records_tell_their_events,
     law_verdicts_are_on_watches,
 };
-use task_laws::laws::law_an_answer_leads_on;
+use task_plan::task_laws::laws::law_an_answer_leads_on;
 use watch_word::law_words_read_back;
 
 /// Law: where a task's own records lead to its machine, the step that it makes next names a word of the run, and the

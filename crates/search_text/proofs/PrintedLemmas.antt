@@ -7,7 +7,7 @@ use Rattle.std.specs.List.{filter, list_any}
 use Rattle.std.proofs.lemmas.List.{length-map}
 use Rattle.std.proofs.lemmas.List.Elements.{filter-append}
 use Rattle.std.proofs.lemmas.List.Sums.{sum_by-cons}
-use Rattle.printed_reports.specs.Texts.{is_printed_text}
+use Rattle.report_text.specs.printed_reports.Texts.{is_printed_text}
 use Rattle.report_text.specs.Groups.{first_seen, is_text, seen_too}
 use Rattle.search_text.proofs.SightingLemmas.{each_with}
 use Rattle.search_text.specs.Printed.{printed, printed_list, printed_lists, shown}

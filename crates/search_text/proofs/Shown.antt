@@ -6,7 +6,7 @@ use Rattle.std.specs.Option.{option_map}
 use Rattle.std.specs.Map.{keys_of, lookup, values_of}
 use Rattle.indexmap.specs.IndexMap.{insert_entry, set_value_at}
 use Rattle.indexmap.proofs.MapLemmas.{Found-position, insert_entry-first}
-use Rattle.printed_reports.specs.Texts.{is_hidden_text}
+use Rattle.report_text.specs.printed_reports.Texts.{is_hidden_text}
 use Rattle.report_text.specs.Groups.{is_text}
 use Rattle.search_text.specs.SearchFindings.{option_again}
 use Rattle.search_text.specs.Counted.{with_count_at}

@@ -1,7 +1,7 @@
 //! What is found, with the reports that are printed alone.
 
 ghost use Rattle.std.specs.Prelude.{◌≡◌, Bool, List, false, not};
-ghost use Rattle.printed_reports.specs.Texts as hidden;
+ghost use Rattle.report_text.specs.printed_reports.Texts as hidden;
 ghost use Rattle.search_text.specs.Printed as spec;
 ghost use Rattle.search_text.specs.Printed.{printed_lists};
 ghost use Rattle.search_text.specs.SearchFindings.{Finds, Searched};
@@ -9,7 +9,7 @@ ghost use Rattle.search_text.specs.declared.found.SearchFindings as found;
 
 use crate::found::SearchFindings;
 use crate::seen::{Seen, Sightings};
-use printed_reports::is_hidden_text;
+use report_text::printed_reports::is_hidden_text;
 
 impl Sightings {
     /// Keeps the texts that aren't hidden.

@@ -5,6 +5,7 @@
 pub mod deadlocks;
 pub mod lines;
 pub mod located;
+pub mod picture_source;
 pub mod sites;
 
 pub use located::with_places;

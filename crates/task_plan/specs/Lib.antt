@@ -15,3 +15,4 @@ pub mod Room
 pub mod SameProgress
 pub mod Uses
 pub mod task_points
+pub mod task_laws

@@ -11,6 +11,7 @@ pub mod locks;
 mod places;
 pub mod plan;
 pub mod progress;
+pub mod task_laws;
 pub mod task_points;
 pub mod uses;
 pub mod walk;

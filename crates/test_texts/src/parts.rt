@@ -3,7 +3,7 @@
 use crate::blocks::Blocks;
 use crate::fault::Fault;
 use crate::sample::{numbered, sample};
-use part_file::{PartError, PartFault, PartsFault, check_parts, part_text, read_part};
+use part_search::part_file::{PartError, PartFault, PartsFault, check_parts, part_text, read_part};
 use std::alloc::Global;
 use std::fmt::Write;
 

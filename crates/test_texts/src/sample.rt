@@ -2,7 +2,7 @@
 
 use access_types::{Report, ValueChange};
 use litmus_syntax::Name;
-use part_file::{Part, PartSettings};
+use part_search::part_file::{Part, PartSettings};
 use prepared_program::program_layout::Place;
 use prepared_program::step_schedule::Entry;
 use search_text::{FindingsParts, Seen, SeenText, Stopped};

@@ -1,7 +1,7 @@
 //! What is read of a kernel's configuration.
 
 use crate::same::{same, same_at};
-use kernel_config::{KernelConfig, is_set};
+use cli::kernel_config::{KernelConfig, is_set};
 
 /// A part of a configuration, as the kernel's build writes it.
 const WRITTEN: &str = "\

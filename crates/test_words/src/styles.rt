@@ -1,7 +1,7 @@
 //! Texts whose lines are coloured.
 
 use crate::same::same_at;
-use colors::colored;
+use cli::colors::colored;
 
 /// A text, and the same in colours. What a style begins with has to stand at the front of a line, and whole.
 const TEXTS: [(&str, &str); 10] = [

@@ -10,7 +10,7 @@ use Rattle.slot_table.specs.Answer.{Answers}
 use Rattle.slot_table.specs.declared.records.Record.{Record}
 use Rattle.slot_table.specs.declared.step.Answer.{Answer}
 use Rattle.slot_table.specs.declared.step.Step.{Step}
-use Rattle.task_laws.specs.Fits.{ArePlaced}
+use Rattle.task_plan.specs.task_laws.Fits.{ArePlaced}
 use Rattle.task_run.specs.Leads.{Leads}
 use Rattle.task_run.specs.declared.run.TaskRun.{TaskRun}
 use Rattle.program_order.specs.Standing.{Setting}

@@ -4,8 +4,8 @@ use Rattle.std.proofs.lemmas.Option.{slice_get_read, slice_get_within}
 use Rattle.std.specs.Option.{option_map}
 use Rattle.file_search.specs.Additions.{HasAdditions}
 use Rattle.file_search.specs.declared.additions.Additions.{Additions}
-use Rattle.part_file.specs.Wholes.{AreWhole}
-use Rattle.part_file.specs.declared.part.Part.{Part}
+use Rattle.part_search.specs.part_file.Wholes.{AreWhole}
+use Rattle.part_search.specs.declared.part_file.part.Part.{Part}
 use Rattle.join_command.proofs.joining.joined.Goals as goal
 
 pub returns-in-Err-joined_text-clause-refused : goal.returns-in-Err-joined_text-clause-refused

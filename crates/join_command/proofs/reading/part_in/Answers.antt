@@ -2,7 +2,7 @@
 use Rattle.std.proofs.Common.{◌≡◌, ◌∙◌, Bor, List, None, Option, Some, ap, inl, inr, sym, ℕ}
 use Rattle.std.specs.Prelude.{option_map}
 use Rattle.join_command.specs.Told.{OfNone, error_words}
-use Rattle.part_file.specs.declared.text.PartError.{PartError}
+use Rattle.part_search.specs.declared.part_file.text.PartError.{PartError}
 use Rattle.join_command.proofs.reading.part_in.Goals as goal
 
 pub returns-in-Some : goal.returns-in-Some

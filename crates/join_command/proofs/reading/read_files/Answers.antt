@@ -5,9 +5,9 @@ use Rattle.std.specs.List.{slice_get}
 use Rattle.file_commands.specs.Desks.{DeskState}
 use Rattle.join_command.proofs.JoinLemmas.{left_read, read_more}
 use Rattle.join_command.specs.Reads.{AreRead}
-use Rattle.part_file.specs.Texts.{text_of}
-use Rattle.part_file.specs.Views.{part_view}
-use Rattle.part_file.specs.declared.part.Part.{Part}
+use Rattle.part_search.specs.part_file.Texts.{text_of}
+use Rattle.part_search.specs.part_file.Views.{part_view}
+use Rattle.part_search.specs.declared.part_file.part.Part.{Part}
 use Rattle.join_command.proofs.reading.read_files.Goals as goal
 
 pub loop-name-init : goal.loop-name-init

@@ -3,9 +3,9 @@ use Rattle.std.proofs.Common.{◌∙◌, ◌<◌, [], Bor, List, ap, arith, code
 use Rattle.std.proofs.lemmas.Option.{slice_get-get_or, slice_get_read, slice_get_within}
 use Rattle.std.proofs.lemmas.Result.{IfOk-weaker}
 use Rattle.join_command.specs.Told.{IsFaultLine, line_on, numbered}
-use Rattle.part_file.specs.Wholes.{HasWrong, IsFault, LacksOne}
-use Rattle.part_file.specs.declared.part.Part.{Part}
-use Rattle.part_file.specs.declared.whole.PartsFault.{PartsFault}
+use Rattle.part_search.specs.part_file.Wholes.{HasWrong, IsFault, LacksOne}
+use Rattle.part_search.specs.declared.part_file.part.Part.{Part}
+use Rattle.part_search.specs.declared.part_file.whole.PartsFault.{PartsFault}
 use Rattle.join_command.proofs.told.fault_line.Goals as goal
 
 pub returns-in_ok-why-in-At : goal.returns-in_ok-why-in-At

@@ -7,7 +7,7 @@ use Rattle.executions.specs.execution.Reports.{reports_of}
 use Rattle.litmus_command.proofs.engine.render_run.Goals as goal
 use Rattle.litmus_step.specs.Runs.{run_of}
 use Rattle.prepared_program.specs.program_sites.Prepared.{sites_in}
-use Rattle.printed_reports.specs.Printed.{printed_reports}
+use Rattle.report_text.specs.printed_reports.Printed.{printed_reports}
 use Rattle.run_output.specs.Output.{output_text}
 use Rattle.run_output.specs.Traces.{IsTraceOf}
 

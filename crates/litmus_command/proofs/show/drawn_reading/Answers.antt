@@ -3,7 +3,7 @@ use Rattle.std.proofs.Common.{ℕ, List, Option, Vec, subst}
 use Rattle.std.specs.Global.{Global}
 use Rattle.std.specs.Option.{option_map}
 use Rattle.litmus_command.specs.Show.{IsPictureDrawn}
-use Rattle.picture_source.specs.Source.{AreLabelsIn}
+use Rattle.source_places.specs.picture_source.Source.{AreLabelsIn}
 use Rattle.timeline.specs.declared.picture.labels.Label.{Label}
 use Rattle.timeline.specs.declared.picture.rows.Row.{Row}
 use Rattle.litmus_command.proofs.show.drawn_reading.Goals as goal

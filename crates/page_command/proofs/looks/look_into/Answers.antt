@@ -10,7 +10,7 @@ use Rattle.file_commands.specs.declared.failure.Failure.TheVariants.{Engine}
 use Rattle.file_search.specs.declared.work.Work.{Work}
 use Rattle.page_command.specs.Looks.{IsFoundLooked, IsLooked}
 use Rattle.page_command.specs.Told.{IsRefusedTold}
-use Rattle.page_findings.specs.Results.{AreFindingsOfText}
+use Rattle.race_page.specs.page_findings.Results.{AreFindingsOfText}
 use Rattle.race_output.specs.Results.{AreRacesOfText, IsFree}
 use Rattle.race_output.specs.declared.words.FileVerdict.TheVariants as verdicts
 use Rattle.search_formats.specs.declared.refusal.Refusal as refusal

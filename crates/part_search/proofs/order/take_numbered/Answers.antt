@@ -6,7 +6,7 @@ use Rattle.std.proofs.lemmas.Bool.{eqb-true}
 use Rattle.std.proofs.lemmas.List.Quantifiers.{position-Some}
 use Rattle.std.proofs.lemmas.List.Sorted.{IsPermutation-swap_remove}
 use Rattle.part_search.proofs.Ordered.{nowhere}
-use Rattle.part_file.specs.declared.part.Part.{Part}
+use Rattle.part_search.specs.declared.part_file.part.Part.{Part}
 use Rattle.part_search.proofs.order.take_numbered.Goals as goal
 
 pub returns-in-Some : goal.returns-in-Some

@@ -2,7 +2,7 @@
 use Rattle.std.proofs.Common.{◌≡◌, [], length, take}
 use Rattle.litmus_syntax.specs.Limits.{TaskKeepsLimits}
 use Rattle.litmus_syntax.specs.Tree.{Task}
-use Rattle.task_laws.specs.Fits.{ArePlaced}
+use Rattle.task_plan.specs.task_laws.Fits.{ArePlaced}
 use Rattle.task_run.specs.Leads.{Leads}
 use Rattle.program_order.specs.Standing.{Setting}
 use Rattle.program_order.specs.WrittenOrder.{WrittenOrder}

@@ -5,7 +5,7 @@ use Rattle.litmus_step.specs.Runs.{run_of}
 use Rattle.litmus_step.specs.Steps.{LeadsTo}
 use Rattle.race_verdicts.proofs.firsts.Firsts.new.Goals as goal
 use Rattle.race_verdicts.specs.Firsts.{unwatched_settings}
-use Rattle.unwatched_executions.specs.Unwatched.{unwatched}
+use Rattle.race_search.specs.unwatched_executions.Unwatched.{unwatched}
 
 pub first_world-requires-2-clause-ready : goal.first_world-requires-2-clause-ready
 first_world-requires-2-clause-ready c =

@@ -4,7 +4,7 @@ use Rattle.std.proofs.lemmas.List.{map-append}
 use Rattle.report_text.specs.Groups.{counted}
 use Rattle.report_text.specs.ReportOf.{NamesAccesses, report_text}
 use Rattle.access_types.specs.declared.report.Report.{Report}
-use Rattle.printed_reports.specs.Printed.{printed_reports}
+use Rattle.report_text.specs.printed_reports.Printed.{printed_reports}
 use Rattle.run_stats.proofs.NameLemmas.{printed_are_named}
 use Rattle.run_stats.proofs.TallyLemmas.{counted_on, groups_on, raced_on, rested, sums_go_on}
 use Rattle.access_types.specs.Sites.{AccessMap}

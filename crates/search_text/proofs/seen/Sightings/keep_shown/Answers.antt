@@ -1,7 +1,7 @@
 -- the entries of the map whose texts aren't hidden stay
 use Rattle.std.proofs.Common.{◌∙◌, ap, false, not, rules}
 use Rattle.indexmap.proofs.CallerLemmas.{filter-RetainsPairs}
-use Rattle.printed_reports.specs.Texts.{is_hidden_text}
+use Rattle.report_text.specs.printed_reports.Texts.{is_hidden_text}
 use Rattle.search_text.proofs.Shown.{Entry, shown, shown_kept}
 use Rattle.search_text.specs.Printed as spec
 use Rattle.search_text.proofs.seen.Sightings.keep_shown.Goals as goal

@@ -1,6 +1,0 @@
--- The styles left are fewer.
-use Rattle.std.proofs.Common.{length}
-use Rattle.colors.proofs.lines.+add_line.Given as goal
-
-abbrev pub decreases-add_line : goal.decreases-add_line
-decreases-add_line l = length l.styles.now

@@ -1,7 +1,0 @@
-//! The colours of the text that goes to a terminal.
-#![tactic(auto)]
-
-pub mod laws;
-pub mod lines;
-
-pub use lines::colored;

@@ -1,8 +1,0 @@
-use Rattle.std.specs.Prelude.{codes}
-use Rattle.kernel_config.proofs.LineLemmas.{stripped, tail_tested}
-use Rattle.kernel_config.proofs.line.names_unset.Goals as goal
-
-pub returns-in-Some : goal.returns-in-Some
-returns-in-Some c =
-    tail_tested c.args.name.now c.args.text.now c.in-Some.rest.now (codes " is not set") c.eq.result
-    (stripped c.args.name.now c.args.text.now c.in-Some.rest.now c.in-Some.ensures.cases) c.eq.ensures

@@ -1,8 +1,0 @@
--- What is read so far is that of the values so far.
-use Rattle.std.proofs.Common.{◌≡◌, map, take}
-use Rattle.part_file.specs.Reads.{entry_in}
-use Rattle.serde_json.specs.View.{view}
-use Rattle.part_file.proofs.reading.entries_of.Given as goal
-
-abbrev pub invariant-loop-value : goal.invariant-loop-value
-invariant-loop-value l = l.entries.items ≡ map (λ value. entry_in (view value)) (take l.value-index l.values)

@@ -1,9 +1,0 @@
--- The values so far are those of the texts so far.
-use Rattle.std.proofs.Common.{◌≡◌, map, take}
-use Rattle.part_file.proofs.Lists.{sighting_view}
-use Rattle.part_file.specs.Values.{sighting_data}
-use Rattle.serde_json.specs.View.{view}
-use Rattle.part_file.proofs.values.sighting_values.Given as goal
-
-abbrev pub invariant-loop-one : goal.invariant-loop-one
-invariant-loop-one l = map view l.values.items ≡ map sighting_data (map sighting_view (take l.one-index l.all))

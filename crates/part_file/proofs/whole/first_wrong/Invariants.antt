@@ -1,6 +1,0 @@
--- Nothing is amiss with the parts so far.
-use Rattle.part_file.specs.Wholes.{AreRight}
-use Rattle.part_file.proofs.whole.first_wrong.Given as goal
-
-abbrev pub invariant-loop-place : goal.invariant-loop-place
-invariant-loop-place l = AreRight l.first l.parts l.place

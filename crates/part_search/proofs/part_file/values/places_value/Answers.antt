@@ -1,0 +1,11 @@
+-- The values of the places, as one.
+use Rattle.std.proofs.Common.{◌∙◌, List, ap, map}
+use Rattle.part_search.specs.part_file.Values.{place_data}
+use Rattle.serde_json.specs.Data.{Data, array}
+use Rattle.serde_json.specs.View.{items_of}
+use Rattle.part_search.proofs.part_file.values.places_value.Goals as goal
+
+pub returns : goal.returns
+returns c =
+    c.array_value.ensures
+    ∙ ap (λ (all : List Data). array (items_of all)) (c.in_ok-values.ensures ∙ ap (map place_data) c.as_slice.ensures.value)

@@ -1,6 +1,0 @@
--- The bytes left are fewer.
-use Rattle.std.proofs.Common.{length}
-use Rattle.printed_reports.proofs.texts.+behind_digits.Given as goal
-
-abbrev pub decreases-behind_digits : goal.decreases-behind_digits
-decreases-behind_digits l = length l.text.now

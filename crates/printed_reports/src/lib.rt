@@ -1,9 +1,0 @@
-//! Which reports are printed.
-#![tactic(auto)]
-
-pub mod laws;
-pub mod printed;
-pub mod texts;
-
-pub use printed::printed_reports;
-pub use texts::is_hidden_text;

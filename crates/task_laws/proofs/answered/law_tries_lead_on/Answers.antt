@@ -1,6 +1,0 @@
--- By what is open.
-use Rattle.task_laws.proofs.Ends.{tries_lead}
-use Rattle.task_laws.proofs.answered.law_tries_lead_on.Goals as goal
-
-pub returns : goal.returns
-returns c = tries_lead

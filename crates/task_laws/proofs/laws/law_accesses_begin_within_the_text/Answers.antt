@@ -1,6 +1,0 @@
--- By what each statement counts.
-use Rattle.task_laws.proofs.Begins.{begins_grow}
-use Rattle.task_laws.proofs.laws.law_accesses_begin_within_the_text.Goals as goal
-
-pub returns : goal.returns
-returns c = begins_grow
