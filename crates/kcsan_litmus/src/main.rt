@@ -2,19 +2,12 @@
 //! programs.
 #![tactic(auto)]
 
-mod color;
-mod locale;
-mod system;
-mod unread;
-mod whole_file;
-mod words;
-
-use color::is_colored;
 use file_commands::failure::{OUT_OF_MEMORY, UNREADABLE, USAGE};
 use litmus_command::command::command;
 use std::process::ExitCode;
-use system::System;
-use words::{WordsFault, words};
+use system_desk::color::is_colored;
+use system_desk::system::System;
+use system_desk::words::{WordsFault, words};
 
 fn main(rt: HostRuntime) -> ExitCode {
     let status = match words(&rt) {
